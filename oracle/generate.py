@@ -1,0 +1,626 @@
+#!/usr/bin/env python3
+"""Makes drawings for comparing planners, by kinds, the same ones for the same seed.
+
+usage: oracle/generate.py KIND SEED COUNT     writes COUNT drawings in batch form to standard output
+       oracle/generate.py --list              names the kinds
+
+Points are pairs of whole grid steps (1/1024) here and become pixels when they are written.
+"""
+import math
+import random
+import struct
+import sys
+
+import drawing as d
+
+STEP = 1024           # grid steps in a pixel
+EDGE = 4096 * STEP    # the largest coordinate
+FULL = dict(f64=2**20 + 20**2, byte=2**20)  # tables for 20 odd nodes
+
+
+def pixels(point):
+    return (point[0] / STEP, point[1] / STEP)
+
+
+def write(lines, links=(), **settings):
+    """A file; a link is (line, segment, point, line, segment, point)."""
+    return d.drawing([[pixels(p) for p in line] for line in lines],
+                     [(la, sa, pixels(a), lb, sb, pixels(b)) for la, sa, a, lb, sb, b in links], **settings)
+
+
+def any_settings(rng, largest=None):
+    """Any valid settings. A small largest canvas puts the centre among the points, so that starts tie."""
+    side = lambda: rng.choice([0, 1, 10, 8191, 8192, rng.randrange(8193)]) if largest is None else rng.randint(0, largest)
+    return dict(width=side(), height=side(), pairing=rng.randrange(2), flags=rng.randrange(4))
+
+
+def clamp(v):
+    return max(-EDGE, min(EDGE, v))
+
+
+def spot(rng, reach=EDGE):
+    return (rng.randint(-reach, reach), rng.randint(-reach, reach))
+
+
+def segments_of(line):
+    """The segment numbers that a link may name."""
+    return range(max(1, len(line) - 1))
+
+
+def place_on(rng, line, segment, ways=("start", "end", "middle", "third", "beside", "far")):
+    """A point for a link that names this segment: at an end, on it, beside it or somewhere else."""
+    (ax, ay), (bx, by) = line[segment], line[min(segment + 1, len(line) - 1)]
+    way = rng.choice(ways)
+    if way == "start":
+        return (ax, ay)
+    if way == "end":
+        return (bx, by)
+    if way == "middle":
+        return ((ax + bx) // 2, (ay + by) // 2)
+    if way == "third":
+        k = rng.randint(1, 6)
+        return (ax + (bx - ax) * k // 7, ay + (by - ay) * k // 7)
+    if way == "beside":
+        return (clamp((ax + bx) // 2 + rng.randint(-3, 3)), clamp((ay + by) // 2 + rng.randint(-3, 3)))
+    return (clamp(ax + rng.randint(-5000, 5000)), clamp(ay + rng.randint(-5000, 5000)))
+
+
+def tree_links(rng, lines, near=False, ways=("middle", "third")):
+    """Links that join all lines with points: each one to an earlier one, or to the one before it."""
+    links, earlier = [], []
+    for number, line in enumerate(lines):
+        if not line:
+            continue
+        if earlier:
+            other = earlier[-1] if near else rng.choice(earlier)
+            sa, sb = rng.choice(segments_of(lines[other])), rng.choice(segments_of(line))
+            a = place_on(rng, lines[other], sa, ways if len(lines[other]) > 1 else ("start",))
+            b = place_on(rng, line, sb, ways if len(line) > 1 else ("start",))
+            ends = [(other, sa, a), (number, sb, b)]
+            rng.shuffle(ends)
+            links.append(ends[0] + ends[1])
+        earlier.append(number)
+    return links
+
+
+def trails(rng, edges, most_lines=256):
+    """Lines that draw each edge once, cut up at random; None if they would pass a limit."""
+    at = {}
+    for number, (a, b) in enumerate(edges):
+        at.setdefault(a, []).append(number)
+        at.setdefault(b, []).append(number)
+    for numbers in at.values():
+        rng.shuffle(numbers)
+    used, lines = set(), []
+    stop = rng.choice([0.0, 0.05, 0.3, 1.0])
+    order = list(range(len(edges)))
+    rng.shuffle(order)
+    for first in order:
+        if first in used:
+            continue
+        used.add(first)
+        line = list(edges[first]) if rng.random() < 0.5 else list(edges[first])[::-1]
+        while rng.random() >= stop:
+            further = [n for n in at[line[-1]] if n not in used]
+            if not further:
+                break
+            used.add(further[0])
+            a, b = edges[further[0]]
+            line.append(b if a == line[-1] else a)
+        lines.append(line)
+    return lines if len(lines) <= most_lines and sum(map(len, lines)) <= 1024 else None
+
+
+def spread(rng, count, low, high):
+    """Rising whole numbers, evenly spaced or not."""
+    if rng.random() < 0.4:
+        gap = rng.choice([1, 3, 1024, 2048, (high - low) // (count + 1)])
+        return [low + gap * i for i in range(count)]
+    return sorted(rng.sample(range(low, high), count))
+
+
+# ---- The kinds. Each gives (file, what is lent). ----
+
+def tiny(rng):
+    """Up to four lines and three links on a 3 by 3 grid."""
+    cells = [(x * STEP, y * STEP) for x in range(3) for y in range(3)]
+    lines = [[rng.choice(cells) for _ in range(rng.randint(0, 5))] for _ in range(rng.randint(1, 4))]
+    full = [n for n, line in enumerate(lines) if line]
+    links = []
+    for _ in range(rng.randint(0, 3) if full else 0):
+        la, lb = rng.choice(full), rng.choice(full)
+        links.append((la, rng.choice(segments_of(lines[la])), rng.choice(cells),
+                      lb, rng.choice(segments_of(lines[lb])), rng.choice(cells)))
+    return write(lines, links, **any_settings(rng, 4)), {}
+
+
+def walks(rng):
+    """Random walks over an uneven small grid, each starting where an earlier one was."""
+    k = rng.randint(2, 8)
+    xs, ys = spread(rng, k, 0, 20 * STEP), spread(rng, k, 0, 20 * STEP)
+    seen, lines = [(rng.randrange(k), rng.randrange(k))], []
+    for _ in range(rng.randint(1, 8)):
+        at = rng.choice(seen)
+        line = [at]
+        for _ in range(rng.randint(0, 30)):
+            at = (min(k - 1, max(0, at[0] + rng.randint(-1, 1))), min(k - 1, max(0, at[1] + rng.randint(-1, 1))))
+            line.append(at)
+        seen += line
+        lines.append([(xs[i], ys[j]) for i, j in line])
+    return write(lines, **any_settings(rng, rng.choice([20, None]))), FULL
+
+
+def lattice(rng):
+    """Rows and columns that cross in shared points, some crossings left out: many odd nodes and ties."""
+    r, c = rng.randint(2, 16), rng.randint(2, 16)
+    xs, ys = spread(rng, c, 0, 40 * STEP), spread(rng, r, 0, 40 * STEP)
+    drop = rng.choice([0, 0, 0.05, 0.2])
+    kept = lambda points: [p for n, p in enumerate(points) if n in (0, len(points) - 1) or rng.random() >= drop]
+    lines = [kept([(x, y) for x in xs]) for y in ys] + [kept([(x, y) for y in ys]) for x in xs]
+    rng.shuffle(lines)
+    settings = any_settings(rng, rng.choice([40, None]))
+    settings["pairing"] = rng.random() < 0.1
+    return write(lines, **settings), FULL
+
+
+def bricks(rows, columns, xs, ys, shift=lambda: 0):
+    """Rows of a wall and every second upright between them: nearly every knot joins three threads."""
+    knot = {(x, y): (xs[x] + shift(), ys[y] + shift()) for x in range(columns) for y in range(rows)}
+    return ([[knot[x, y] for x in range(columns)] for y in range(rows)] +
+            [[knot[x, y], knot[x, y + 1]] for y in range(rows - 1) for x in range(y % 2, columns, 2)])
+
+
+def honeycomb(rng):
+    """A wall of bricks, even or uneven: as many odd nodes as knots, up to about 400."""
+    while True:
+        rows, columns = rng.randint(2, 20), rng.randint(2, 40)
+        uneven = rng.choice([0, 200, 500])
+        gap = rng.choice([1500, 2 * STEP, STEP])
+        lines = bricks(rows, columns, [gap * x for x in range(columns)], [gap * y for y in range(rows)],
+                       lambda: rng.randint(-uneven, uneven))
+        if len(lines) <= 256 and sum(map(len, lines)) <= 1024:
+            rng.shuffle(lines)
+            settings = any_settings(rng, rng.choice([40, None]))
+            settings["pairing"] = rng.random() < 0.1
+            return write(lines, **settings), FULL
+
+
+def lace(rng, most=260):
+    """A random net: each knot tied to near ones, drawn in trails."""
+    while True:
+        n = rng.randint(4, most)
+        reach = rng.choice([30, 3000, 40 * STEP, EDGE])
+        knots = list({spot(rng, reach) for _ in range(n)})
+        edges = []
+        for i in range(1, len(knots)):
+            near = sorted(range(i), key=lambda j: math.dist(knots[i], knots[j]))[:3]
+            edges += [(knots[i], knots[j]) for j in rng.sample(near, rng.randint(1, len(near)))]
+        lines = edges and trails(rng, edges)
+        if lines:
+            settings = any_settings(rng)
+            settings["pairing"] = rng.random() < 0.1
+            return write(lines, **settings), FULL
+
+
+def comb(rng, m=None, tight=None):
+    """Teeth side by side, each linked to the one before or a near one: up to 1,022 odd nodes."""
+    m = m or rng.choice([2, 5, 20, 60, 60, 120, 120, 256])
+    # Links close to the teeth's ends make pairs that are near along the lines too, so repair stays small.
+    tight = rng.random() < 0.5 if tight is None else tight
+    width, gap = rng.choice([400, 40 * STEP, EDGE]), rng.choice([1, 7, STEP, 2 * EDGE // 256])
+    if tight:
+        width, gap = 400, rng.choice([900, 2 * EDGE // 256])
+    lines = [[(0, clamp(i * gap - EDGE)), (rng.choice([width, width - rng.randrange(300)]), clamp(i * gap - EDGE))]
+             for i in range(m)]
+
+    def place(k, side):
+        right = lines[k][1][0]
+        x = (rng.randint(1, right // 4), right - rng.randint(1, right // 4))[side] if tight else rng.randint(1, right - 1)
+        return (x, lines[k][0][1])
+    links = [(j, 0, place(j, 0), i, 0, place(i, 1))
+             for i in range(1, m) for j in [max(0, i - (1 if tight else rng.choice([1, 1, 1, 2, 5])))]]
+    settings = any_settings(rng)
+    settings["pairing"] = rng.random() < 0.1
+    return write(lines, links, **settings), FULL
+
+
+def cube(rng):
+    """Corners of a cube of 2 to 5 dimensions laid flat: ways of one length whose sums round apart."""
+    k = rng.choice([2, 3, 3, 3, 4, 5])
+    while True:
+        sides = [spot(rng, rng.choice([9, 2000, 700 * STEP])) for _ in range(k)]
+        corner = lambda mask: tuple(sum(s[axis] for i, s in enumerate(sides) if mask >> i & 1) for axis in (0, 1))
+        if len({corner(mask) for mask in range(2**k)}) == 2**k:
+            break
+    edges = [(corner(mask), corner(mask | 1 << i)) for mask in range(2**k) for i in range(k) if not mask >> i & 1]
+    edges = [edge for edge in edges if rng.random() >= rng.choice([0, 0, 0.1])]
+    lines = trails(rng, edges) if edges else [[(0, 0)]]
+    return write(lines, **any_settings(rng)), FULL
+
+
+def near(rng):
+    """Three or five ways from A to C, some of which differ by about 1e-10, one of them to be retraced."""
+    span = rng.randint(100 * STEP, EDGE)
+    whole = span * (1 + rng.random() / 2)
+    found = []
+    for x in rng.sample(range(1, span), 6000):
+        # The y that brings the way over (x, y) next to the wanted length: both lie on one ellipse about A and C.
+        first = (whole + (2 * span * x - span * span) / whole) / 2
+        y = int(math.sqrt(max(0, first * first - x * x)))
+        found.append((math.hypot(x, y) + math.hypot(span - x, y), (x, y)))
+    found.sort()
+    gap = lambda i: found[i + 1][0] - found[i][0]
+    # Mirrored ways have gap 0 and tell nothing.
+    closest = sorted((i for i in range(len(found) - 1) if gap(i) > 1e-9), key=gap)
+    i = rng.choice(closest[:5])
+    # One more way or three more to make it odd: longer ones, near ones, or anything.
+    others = [found[i + 2:i + 5] or found[:3], found[-3:], found][rng.randrange(3)]
+    middles = [found[i][1], found[i + 1][1]] + [rng.choice(others)[1] for _ in range(rng.choice([1, 1, 3]))]
+    lines = []
+    for x, y in rng.sample(middles, len(middles)):
+        line = [(0, 0), (x, rng.choice([y, y, -y])), (span, 0)]
+        lines.append(line if rng.random() < 0.5 else line[::-1])
+    settings = any_settings(rng)
+    settings["flags"] |= 1
+    return write(lines, **settings), FULL
+
+
+def overlap(rng):
+    """Segments that lie on one another: lines back and forth over a few points of one straight line."""
+    slope = rng.choice([(1, 0), (3, 4), (0, 1), (-5, 2)])
+    scale = rng.choice([1, 100, STEP])
+    lines = [[(slope[0] * k * scale, slope[1] * k * scale) for k in (rng.randint(0, 6) for _ in range(rng.randint(1, 7)))]
+             for _ in range(rng.randint(1, 5))]
+    links = tree_links(rng, lines, ways=("start", "end", "middle", "third")) if rng.random() < 0.6 else []
+    return write(lines, links, **any_settings(rng, rng.choice([6, None]))), FULL
+
+
+def zero(rng):
+    """Zero-length segments, named by links whose points lie on them or off them."""
+    lines = []
+    for _ in range(rng.randint(1, 4)):
+        line = []
+        for _ in range(rng.randint(1, 4)):
+            line += [(rng.randint(0, 3) * STEP, rng.randint(0, 3) * STEP)] * rng.randint(1, 3)
+        lines.append(line)
+    links = tree_links(rng, lines, ways=("start", "middle", "beside", "far"))
+    for _ in range(rng.randint(0, 3)):
+        la, lb = rng.randrange(len(lines)), rng.randrange(len(lines))
+        sa, sb = rng.choice(segments_of(lines[la])), rng.choice(segments_of(lines[lb]))
+        links.append((la, sa, place_on(rng, lines[la], sa), lb, sb, place_on(rng, lines[lb], sb)))
+    return write(lines, links, **any_settings(rng, 4)), FULL
+
+
+def links(rng):
+    """Links with one point twice, alike, at ends, off their segment, and several at one distance (P, Q, P)."""
+    lines = [[(rng.randint(-9, 9) * 256, rng.randint(-9, 9) * 256) for _ in range(rng.randint(2, 5))]
+             for _ in range(rng.randint(1, 4))]
+    out = tree_links(rng, lines, ways=("start", "end", "middle", "beside", "far"))
+    for _ in range(rng.randint(0, 8)):
+        la, lb = rng.randrange(len(lines)), rng.randrange(len(lines))
+        sa, sb = rng.choice(segments_of(lines[la])), rng.choice(segments_of(lines[lb]))
+        a, b = place_on(rng, lines[la], sa), place_on(rng, lines[lb], sb)
+        way = rng.randrange(5)
+        if way == 0:
+            b = a                                        # one point twice
+        elif way == 1 and out:
+            out.append(rng.choice(out))                  # alike
+            continue
+        elif way == 2 and out:
+            l = rng.choice(out)
+            out.append(l[3:] + l[:3])                    # alike, turned round
+            continue
+        elif way == 3:
+            # Points at one distance from the segment's start, in the order P, Q, P or with an end between.
+            (sx, sy), (ex, ey) = lines[la][sa], lines[la][sa + 1]
+            dx, dy = rng.choice([(ex - sx, ey - sy), (3 * 256, 4 * 256), (256, 0)])
+            round_it = [(sx + dx, sy + dy), (sx - dy, sy + dx), (sx + dy, sy + dx), (sx - dx, sy - dy)]
+            order = rng.choice([(0, 1, 0), (1, 0, 1), (1, 2, 1, 2), (0, 0, 1), (3, 1, 3), (1, 1)])
+            out += [(la, sa, round_it[k], lb, sb, b) for k in order]
+            continue
+        out.append((la, sa, a, lb, sb, b))
+    rng.shuffle(out)
+    return write(lines, out, **any_settings(rng, rng.choice([4, None]))), FULL
+
+
+def dots(rng):
+    """Dots among short lines, linked to their own place or beside it, some not linked."""
+    lines = [[(rng.randint(0, 6) * 512, rng.randint(0, 6) * 512) for _ in range(rng.choice([1, 1, 1, 2, 3]))]
+             for _ in range(rng.randint(1, 12))]
+    out = tree_links(rng, lines, ways=("start", "middle"))
+    if out and rng.random() < 0.2:
+        out.pop(rng.randrange(len(out)))
+    if rng.random() < 0.2:
+        n = rng.randrange(len(lines))
+        p = place_on(rng, lines[n], 0, ("start", "beside", "far"))
+        m = rng.randrange(len(lines))
+        out.append((n, 0, p, m, 0, rng.choice([p, lines[m][0]])))
+    return write(lines, out, **any_settings(rng, rng.choice([3, None]))), FULL
+
+
+def empty(rng):
+    """Empty lines between the others, which links must count but not name."""
+    lines = [[] if rng.random() < 0.5 else [spot(rng, 3000) for _ in range(rng.randint(1, 4))] for _ in range(rng.randint(1, 14))]
+    out = tree_links(rng, lines)
+    if out and rng.random() < 0.15:
+        l = rng.choice(out)
+        out.append((rng.randrange(len(lines)), 0) + l[2:])
+    return write(lines, out, **any_settings(rng)), FULL
+
+
+def pieces(rng):
+    """Drawings that fall apart, or hold together by a single point."""
+    lines, shift = [], 0
+    for _ in range(rng.randint(2, 5)):
+        lines += [[(x + shift, y) for x, y in [(rng.randint(0, 2) * STEP, rng.randint(0, 2) * STEP) for _ in range(rng.randint(1, 4))]]
+                  for _ in range(rng.randint(1, 3))]
+        shift += rng.choice([0, 2, 2, 3]) * STEP
+    out = tree_links(rng, lines, ways=("start", "end", "middle"))
+    keep = rng.choice([0, 0.5, 0.9, 1])
+    return write(lines, [l for l in out if rng.random() < keep], **any_settings(rng)), FULL
+
+
+def bits(x):
+    return struct.unpack("<Q", struct.pack("<d", x))[0]
+
+
+def of_bits(b):
+    return struct.unpack("<d", struct.pack("<Q", b))[0]
+
+
+# Coordinates at and past the edges of check 7, in pixels.
+COORDINATES = [4096.0, -4096.0, 4096 + 1 / 1024, -4096 - 1 / 1024, 8192.0, 1 / 1024, -1 / 1024, 1 / 2048, 1 / 1024 + 2**-62,
+               0.0, -0.0, math.nan, -math.nan, math.inf, -math.inf, 5e-324, -5e-324, 2.0**-1022, 1e300,
+               of_bits(bits(4096.0) + 1), of_bits(bits(4096.0) - 1), of_bits(bits(1.0) + 1), of_bits(bits(3.5) - 1),
+               of_bits(0x7ff0000000000001), of_bits(0xfff8000000000000), 4095 + 1023 / 1024]
+
+
+def limit_cases():
+    """Named files at and just past each limit of checks 1 to 8."""
+    s, seg = d.settings(), [(0, 0), (1, 0)]
+    good = d.drawing([[(0, 0), (3, 4)], [(1, 1)]], [(0, 0, (0, 0), 1, 0, (1, 1))])
+    eight = s + d.line([(1, 1)] * 4092) + d.line([]) * 7
+    yield "65,536 bytes, too many points", eight
+    yield "65,537 bytes", eight + b"\0"
+    yield "65,537 bytes of nothing", bytes(65537)
+    yield "65,536 bytes of nothing: records of length 0 and kind 0, then four bytes", bytes(65536)
+    yield "65,532 bytes of nothing: whole records of kind 0", bytes(65532)
+    for k in range(1, 7):
+        yield f"{k} bytes of a head", s[:k]
+        yield f"settings and {k} bytes of a head", s + d.line([])[:k]
+    yield "settings short of one byte", s[:-1]
+    yield "last record short of one byte", good[:-1]
+    yield "last record and one byte more", good + b"\0"
+    yield "body of 2^32-1 bytes", struct.pack("<IH", 2**32 - 1, 1) + bytes(20)
+    yield "body of 2^32-6 bytes", struct.pack("<IH", 2**32 - 6, 1) + bytes(20)
+    yield "second body of 2^32-1 bytes", s + struct.pack("<IH", 2**32 - 1, 2) + bytes(20)
+    yield "a body one byte past the end, kinds wrong too", struct.pack("<IH", 7, 9) + bytes(6)
+    for kind in (0, 4, 5, 6, 256, 257, 513, 65535):
+        yield f"a record of kind {kind} after the settings", s + d.record(kind, b"")
+        yield f"settings of kind {kind}", d.record(kind, s[6:])
+    yield "settings twice", s + s
+    yield "line before settings", d.line([]) + s
+    yield "lines only", d.line([])
+    yield "link before line", s + good[-46:] + d.line([(0, 0)])
+    yield "line after link", good + d.line([(0, 0)])
+    yield "settings at the end", good + s
+    for n in (0, 9, 11, 16):
+        yield f"settings of {n} bytes", d.record(1, bytes(n))
+    for n in (1, 8, 15, 17, 31):
+        yield f"line of {n} bytes", s + d.record(2, bytes(n))
+    for n in (0, 39, 41, 80):
+        yield f"link of {n} bytes", s + d.line(seg) + d.record(3, bytes(n))
+    yield "wrong line length and wrong width", d.settings(width=9000) + d.record(2, bytes(7))
+    for name in ("width", "height"):
+        for v in (0, 8192, 8193, 2**31, 2**32 - 1):
+            yield f"{name} {v}", d.drawing([seg], **{name: v})
+    for v in (0, 1, 2, 255):
+        yield f"pairing {v}", d.drawing([seg], pairing=v)
+    for v in (0, 1, 2, 3, 4, 7, 128, 255):
+        yield f"flags {v}", d.drawing([seg], flags=v)
+    yield "flags 4 and too many lines", d.settings(flags=4) + d.line([]) * 257
+    yield "256 empty lines", s + d.line([]) * 256
+    yield "257 empty lines", s + d.line([]) * 257
+    yield "256 lines of one point", s + d.line([(1, 1)]) * 256
+    path = [(k % 32, k // 32) for k in range(1026)]
+    yield "1,024 points in one line", s + d.line(path[:1024])
+    yield "1,025 points in one line", s + d.line(path[:1025])
+    yield "1,024 points in two lines", s + d.line(path[:512]) + d.line(path[511:1023])
+    yield "1,025 points in two lines", s + d.line(path[:512]) + d.line(path[511:1024])
+    ends = (0, 0, (0, 0), 0, 0, (1, 0))
+    yield "255 links alike", d.drawing([seg], [ends] * 255, flags=1)
+    yield "256 links alike", d.drawing([seg], [ends] * 256)
+    yield "256 links and minus zero", d.drawing([[(-0.0, 0), (1, 0)]], [ends] * 256)
+    for n, c in enumerate(COORDINATES):
+        yield f"x number {n}, {c!r}", d.drawing([[(c, 1)]])
+        yield f"y number {n}, {c!r}", d.drawing([[(1, 2), (1, c)]], flags=1)
+        yield f"x of a link's first end number {n}, {c!r}", d.drawing([seg], [(0, 0, (c, 0), 0, 0, (1, 0))])
+        yield f"y of a link's second end number {n}, {c!r}", d.drawing([seg], [(0, 0, (0, 0), 0, 0, (1, c))])
+    yield "minus zero and a missing line", d.drawing([[(-0.0, 0), (1, 0)]], [(1, 0, (0, 0), 0, 0, (1, 0))])
+    lines = [[(0, 0), (1, 0), (2, 0), (2, 1)], [], [(2, 2)]]
+    join = (0, 2, (2, 1), 2, 0, (2, 2))
+    for name, first in [("line 3 of 3", (3, 0)), ("line 65535", (65535, 0)), ("an empty line", (1, 0)),
+                        ("an empty line's segment 1", (1, 1)), ("segment 2 of 4 points", (0, 2)),
+                        ("segment 3 of 4 points", (0, 3)), ("segment 65535", (0, 65535)),
+                        ("segment 0 of a dot", (2, 0)), ("segment 1 of a dot", (2, 1))]:
+        point = (2, 2) if first[0] == 2 else (2, 0)
+        yield f"first end names {name}", d.drawing(lines, [join, (*first, point, 0, 0, (1, 0))])
+        yield f"second end names {name}", d.drawing(lines, [join, (0, 0, (1, 0), *first, point)])
+    yield "segment 0 of two points", d.drawing([seg], [(0, 0, (0, 1), 0, 0, (1, 0))])
+    yield "segment 1 of two points", d.drawing([seg], [(0, 1, (0, 1), 0, 0, (1, 0))])
+
+
+LIMITS = []
+
+
+def limits(rng):
+    """The named limit cases in turn at random, sometimes with other settings or a byte changed."""
+    if not LIMITS:
+        LIMITS.extend(file for _, file in limit_cases())
+    file = rng.choice(LIMITS)
+    if rng.random() < 0.3 and len(file) > 16:
+        return damage(rng, file), {}
+    return file, {}
+
+
+def hairpin(n, q, extra, flags, pairing=0):
+    """A line of n segments that comes back to its start, q pairs of stubs at its two ends, and a closed
+    line of `extra` segments. Stub ends of a pair lie a step apart but n + 2 edges along the lines, so
+    each retrace is long: after k of them the graph has n + 2 q + extra + k (n + 2) edges."""
+    half = n // 2
+    spine = [(i * STEP, 0) for i in range(half + 1)] + [(i * STEP, 2) for i in range(n - half, 0, -1)]
+    start, end = spine[0], spine[-1]
+    lines = [spine]
+    for k in range(q):
+        tip = (-(k + 1) * 9 * STEP, (k + 1) * 5)
+        lines += [[start, tip], [end, (tip[0], tip[1] + 1)]]
+    if extra:
+        ring = [(half * STEP, 50 + STEP * k) for k in range(extra - 1)]
+        lines.append([spine[half]] + ring + [spine[half]])
+    return write(lines, flags=flags, pairing=pairing)
+
+
+def edges(rng):
+    """Repairs that come near 4,000 edges, meet it exactly or pass it, in the last retrace or before."""
+    q, flags = rng.choice([3, 3, 5, 7, 9]), rng.randrange(4)
+    retraces = q - 1 + (flags & 1)
+    # The largest spine that stays at most 4,000, if the limit of points allows it.
+    n = min((4000 - 2 * q - 2 * retraces) // (retraces + 1), 1020 - 4 * q - 8)
+    n -= rng.choice([0, 0, 1, 2, -1, 5, -30])
+    n = min(n, 1023 - 4 * q)
+    room = 4000 - (n + 2 * q + retraces * (n + 2))
+    extra = max(0, min(room + rng.choice([0, 0, 1, -1, 2]), 1022 - 4 * q - n))
+    return hairpin(n, q, extra if extra >= 2 else 0, flags), {}
+
+
+def optimal(rng):
+    """Optimal with 4 to 24 odd nodes: stars and caterpillars, tables exact, one short or as plan lends."""
+    n = rng.choice([4, 4, 6, 6, 8, 8, 10, 10, 12, 12, 14, 14, 16, 18, 20, 22, 24])
+    unit = rng.choice([1, STEP, 37, 1009])
+    uneven = rng.choice([0, unit // 2])
+    stray = lambda x, y: (x + rng.randint(-uneven, uneven), y + rng.randint(-uneven, uneven))
+    if rng.random() < 0.5:
+        # Rays of one to three segments: all pairings of the same ends cost the same but for rounding.
+        centre, knees = spot(rng, 20 * unit), rng.randint(1, 3)
+        lines = [[centre] + [stray(centre[0] + dx * unit * k, centre[1] + dy * unit * k) for k in range(1, knees + 1)]
+                 for dx, dy in rng.sample([(x, y) for x in range(-9, 10) for y in range(-9, 10) if (x, y) != (0, 0)], n)]
+    else:
+        spine = [stray(k * 10 * unit, rng.randint(0, 3) * unit) for k in range(n // 2 + 1)]
+        lines = [spine] + [[p, stray(p[0] + rng.randint(1, 9) * unit, p[1] - rng.randint(1, 9) * unit)]
+                           for p in rng.sample(spine[1:-1], n // 2 - 1)]
+        for _ in range(rng.choice([0, 1, 2])):
+            # Bridges between far places of the spine give it other ways round.
+            a, b = rng.sample(spine, 2)
+            lines += [[a, (a[0], a[1] + 50 * unit), (b[0], b[1] + 50 * unit), b]]
+    rng.shuffle(lines)
+    exact = dict(f64=2**n + n * n, byte=2**n)
+    lent = rng.choice([{}, FULL, exact, exact, exact, dict(exact, f64=2**n + n * n - 1), dict(exact, byte=2**n - 1), dict(f64=0, byte=0)])
+    settings = any_settings(rng)
+    settings["pairing"] = 1
+    return write(lines, **settings), lent
+
+
+def flags(rng):
+    """One of a few shapes with every value of flags and pairing, and values just past them."""
+    shape = rng.choice([
+        [[(0, 4), (4, 4), (8, 4)], [(4, 0), (4, 4), (4, 8)]], [[(0, 0), (3, 4)]], [[(0, 0), (8, 0), (8, 8), (0, 8), (0, 0)]],
+        [[(0, 0), (4, 0), (4, 4)], [(4, 0), (8, 0)]], [[(0, 0), (4, 0)], [(0, 0), (0, 4)], [(0, 0), (4, 4)]], [], [[(5, 5)]]])
+    lines = [[(x * STEP, y * STEP) for x, y in line] for line in shape]
+    return write(lines, width=rng.randint(0, 16), height=rng.randint(0, 16), pairing=rng.choice([0, 0, 1, 1, 2]),
+                 flags=rng.choice([0, 1, 2, 3, 0, 1, 2, 3, 4])), {}
+
+
+def output(rng):
+    """Outputs that are exact, a byte or a point short, or shorter than a head."""
+    k = rng.randint(0, 40)
+    if rng.random() < 0.6:
+        lines, points = [[(i * STEP, i % 3) for i in range(k)]], k
+    else:
+        lines = [[(0, 0), (STEP, 0)], [(0, 0), (0, STEP)], [(0, 0), (STEP, STEP)]]
+        points = rng.randint(0, 8)
+    room = max(0, 6 + 16 * points + rng.choice([0, 0, -1, -16, 1, 16, -6 - 16 * points, -16 * points]))
+    settings = any_settings(rng)
+    settings["flags"] &= 2
+    return write(lines, **settings), dict(output=room)
+
+
+def damage(rng, file):
+    """A copy with something wrong: cut short, a bit turned, a byte more or less, a record's place changed."""
+    data = bytearray(file)
+    for _ in range(rng.choice([1, 1, 1, 2, 4])):
+        if not data:
+            break
+        at = rng.randrange(len(data))
+        way = rng.choice(["cut", "bit", "bit", "bit", "byte", "byte", "more", "less", "top bit", "one in the head"])
+        if way == "cut":
+            del data[at:]
+        elif way == "bit":
+            data[at] ^= 1 << rng.randrange(8)
+        elif way == "byte":
+            data[at] = rng.randrange(256)
+        elif way == "more":
+            data.insert(at, rng.randrange(256))
+        elif way == "less":
+            del data[at]
+        elif way == "top bit":
+            # A sign or exponent, if this is a coordinate's last byte; files are mostly coordinates.
+            data[at - at % 2] ^= rng.choice([0x80, 0x40, 0x01])
+        else:
+            # The settings' own bytes, and the head of the second record.
+            data[rng.randrange(min(22, len(data)))] ^= rng.choice([1, 2, 3, 4])
+    return bytes(data)
+
+
+def damaged(rng):
+    """Damaged copies of good files of the small kinds."""
+    file, lent = rng.choice([tiny, walks, links, dots, empty, overlap, zero, flags, cube])(rng)
+    return damage(rng, file), lent
+
+
+def big(rng):
+    """As large as the limits allow: 1,024 points and 255 links, in one line or many."""
+    count = rng.choice([1, 1, 2, 8, 64, 200])
+    length = 1024 // count
+    way = rng.randrange(3)
+    points = []
+    for k in range(length * count):
+        if way == 0:
+            points.append(spot(rng, EDGE))
+        elif way == 1:
+            points.append((round(k * STEP * math.cos(k / 9)), round(k * STEP * math.sin(k / 9))))
+        else:
+            row, column = divmod(k, 32)
+            points.append(((column if row % 2 == 0 else 31 - column) * 2 * STEP, row * 2 * STEP + k % 5))
+    lines = [points[i * length:(i + 1) * length] for i in range(count)]
+    out = tree_links(rng, lines, near=way > 0)
+    wanted = rng.choice([len(out), 255, 255, 100])
+    while len(out) < wanted:
+        la = rng.randrange(count)
+        lb = min(count - 1, la + rng.randint(0, 1))
+        sa = rng.choice(segments_of(lines[la]))
+        sb = rng.choice(segments_of(lines[lb])) if way == 0 else min(sa + rng.randint(0, 40), segments_of(lines[lb])[-1])
+        out.append((la, sa, place_on(rng, lines[la], sa, ("third", "middle", "beside")),
+                    lb, sb, place_on(rng, lines[lb], sb, ("third", "middle", "beside"))))
+    settings = any_settings(rng)
+    settings["pairing"] = rng.random() < 0.05
+    return write(lines, out, **settings), FULL
+
+
+KINDS = {f.__name__: f for f in (tiny, walks, lattice, honeycomb, lace, comb, cube, near, overlap, zero, links, dots, empty, pieces,
+                                 limits, edges, optimal, flags, output, damaged, big)}
+
+
+def main():
+    if sys.argv[1:] == ["--list"]:
+        for name, kind in KINDS.items():
+            print(f"{name:10} {kind.__doc__.splitlines()[0]}")
+        return
+    name, seed, count = sys.argv[1], sys.argv[2], int(sys.argv[3])
+    rng = random.Random(f"{name} {seed}")
+    for _ in range(count):
+        file, lent = KINDS[name](rng)
+        sys.stdout.buffer.write(d.batched(file, **lent))
+
+
+if __name__ == "__main__":
+    main()

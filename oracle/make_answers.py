@@ -1,0 +1,180 @@
+#!/usr/bin/env python3
+"""Makes the fixed list of drawings with the oracle's answers.
+
+usage: oracle/make_answers.py ORACLE > oracle/answers.txt
+
+Each case is a line `case NAME`, a line `lent F64 BYTES OUTPUT` (entries, entries, bytes), a line `file HEX`
+(only `file` if it is empty), the answer's lines as the oracle prints them, and an empty line.
+"""
+import random
+import re
+import subprocess
+import sys
+
+import drawing as d
+import generate as g
+from samples import CROSS, SAMPLES
+
+
+def star(n, step=1):
+    """n rays of different lengths and directions from (0, 0)."""
+    spots = [(9, 1), (-2, 7), (5, -8), (-6, -3), (1, 4), (7, 6), (-9, 2), (3, -2), (-4, 9), (8, -5), (-1, -6), (2, 8),
+             (-7, -8), (6, 3), (-3, 5), (4, -9), (-8, 6), (9, 7), (-5, -5), (1, -3), (7, -7), (-9, -9)]
+    return [[(0, 0), (x * step, y * step)] for x, y in spots[:n]]
+
+
+def from_samples():
+    for name, file, options, _ in SAMPLES:
+        lent = dict(zip((o.strip("-") for o in options[::2]), map(int, options[1::2])))
+        yield "sample: " + name, file, dict(f64=lent.get("f64", d.PLAN_F64), byte=lent.get("bytes", d.PLAN_BYTES))
+
+
+# Limit cases that tell no more than another one of the list, by how their names begin.
+SPARED = [r"65,53\d bytes of nothing", r"(settings and )?[2346] bytes of a head", "body of 2.32-6", r".*kind (5|6|256|257|513)\b",
+          "settings of kind (4|65535)", "settings at the end", "settings of (0|16) bytes", "line of (8|31) bytes", "link of (0|80)",
+          r"(width|height) (0|2147483648)$", "height 4294967295", "pairing (0|1|255)", "flags [01237]$", "flags 128",
+          "1,02[45] points in two", "settings and 1 bytes", "second body", "settings of kind 0", "line of 1 bytes",
+          r"(y|x of a link's first end|y of a link's second end) number (?!2,|10,)", r"x number (4|5|9|16|12|14|17|18|20|22|23|24|25),",
+          "(first|second) end names segment 65535", "second end names (line 65535|an empty line's|segment 2|segment 0)"]
+
+
+def from_limits():
+    for name, file in g.limit_cases():
+        if not re.match("|".join(SPARED), name):
+            yield "limit: " + name, file, {}
+
+
+def by_hand():
+    seg = [[(0, 0), (8, 0)]]
+    end = (0, 0, (8, 0))
+    yield "splits: P, Q, P at one distance stay", d.drawing(seg, [(0, 0, p, *end) for p in ((3, 4), (4, 3), (3, 4))])
+    yield "splits: P, P, Q at one distance: the second P goes", d.drawing(seg, [(0, 0, p, *end) for p in ((3, 4), (3, 4), (4, 3))])
+    yield "splits: P, end, P becomes P", d.drawing([[(0, 0), (5, 0)]], [(0, 0, (3, 4), 0, 0, (5, 0))] * 2)
+    yield "splits: by distance, not along the segment", d.drawing(seg, [(0, 0, (-5, 0), 0, 0, (3, 0))])
+    yield "splits: past the end", d.drawing(seg, [(0, 0, (9, 0), 0, 0, (3, 0))])
+    yield "splits: off the segment, which bends", d.drawing(seg, [(0, 0, (2, 3), 0, 0, (6, -1))])
+    yield "splits: on a zero-length segment, off it", d.drawing([[(2, 2), (2, 2)]], [(0, 0, (3, 3), 0, 0, (2, 2))])
+    yield "splits: first end of a link before its second at one distance", d.drawing(seg, [(0, 0, (0, 3), 0, 0, (3, 0))])
+    yield "splits: the other order", d.drawing(seg, [(0, 0, (3, 0), 0, 0, (0, 3))])
+    yield "splits: two segments named for one corner", d.drawing(
+        [[(0, 0), (4, 0), (4, 4)], [(6, 0), (6, 4)]], [(0, 0, (4, 0), 1, 0, (6, 0)), (0, 1, (4, 0), 1, 0, (6, 4))])
+    yield "splits: a point of segment 1 named for segment 0", d.drawing([[(0, 0), (4, 0), (4, 4)]], [(0, 0, (4, 4), 0, 1, (0, 0))])
+    yield "link: one point twice bends its segment", d.drawing(seg, [(0, 0, (4, 1), 0, 0, (4, 1))])
+    yield "link: one point twice on its dot", d.drawing([[(1, 1)]], [(0, 0, (1, 1), 0, 0, (1, 1))])
+    yield "link: one point twice beside its dot cannot be reached", d.drawing([[(1, 1)]], [(0, 0, (2, 1), 0, 0, (2, 1))])
+    yield "link: from a dot to a place beside it", d.drawing([[(1, 1)]], [(0, 0, (1, 1), 0, 0, (2, 1))])
+    yield "link: two alike", d.drawing([[(0, 0), (2, 0)], [(0, 3), (2, 3)]], [(0, 0, (1, 0), 1, 0, (1, 3))] * 2)
+    yield "link: alike, turned round", d.drawing(
+        [[(0, 0), (2, 0)], [(0, 3), (2, 3)]], [(0, 0, (1, 0), 1, 0, (1, 3)), (1, 0, (1, 3), 0, 0, (1, 0))])
+    yield "link: along a segment that is drawn", d.drawing(seg, [(0, 0, (0, 0), 0, 0, (8, 0))])
+    yield "link: names a line behind an empty one", d.drawing([[], [(0, 0), (2, 0)], [], [(1, 3)]], [(1, 0, (1, 0), 3, 0, (1, 3))])
+    yield "lines: only empty ones", d.drawing([[], [], []])
+    yield "lines: three dots on one place", d.drawing([[(1, 1)]] * 3)
+    yield "lines: two dots apart", d.drawing([[(1, 1)], [(1, 2)]])
+    yield "lines: meeting in a shared point", d.drawing([[(0, 0), (4, 0)], [(4, 0), (4, 4)]])
+    yield "lines: crossing without a shared point", d.drawing([[(0, 4), (8, 4)], [(4, 0), (4, 8)]])
+    yield "lines: the same segment three times", d.drawing([[(0, 0), (4, 0), (0, 0), (4, 0)]])
+    yield "lines: the same segment three times, as lines", d.drawing([[(0, 0), (4, 0)], [(4, 0), (0, 0)], [(0, 0), (4, 0)]])
+    yield "lines: zero-length segments between others", d.drawing([[(0, 0), (0, 0), (4, 0), (4, 0), (4, 0), (4, 4)]])
+    yield "departure: a real edge joins the two ends, and two ways round", d.drawing(
+        [[(0, 0), (4, 0)], [(0, 0), (2, 2), (4, 0)], [(0, 0), (2, -2), (4, 0)]])
+    yield "departure: the same, Inside", d.drawing(
+        [[(0, 0), (2, 2), (4, 0)], [(4, 0), (0, 0)], [(0, 0), (2, -2), (4, 0)]], flags=2)
+    yield "departure: a segment and a loop at its end", d.drawing([[(0, 0), (4, 0), (6, 2), (6, -2), (4, 0)]])
+    yield "departure: a link joins the two ends", d.drawing([[(0, 0), (4, 0), (4, 4), (0, 0)]], [(0, 0, (0, 0), 0, 1, (4, 4))])
+    square = [(1, 1), (9, 1), (9, 9), (1, 9), (1, 1)]
+    for flags in range(4):
+        yield f"start: a square about the centre, all corners tie, flags {flags}", d.drawing([square], flags=flags)
+        yield f"start: a line whose ends tie, flags {flags}", d.drawing([[(1, 5), (5, 6), (9, 5)]], flags=flags)
+        yield f"start: a cross, flags {flags}", d.drawing(CROSS, flags=flags)
+    yield "start: canvas 0 by 0", d.drawing([square], width=0, height=0)
+    yield "start: an odd width puts the centre on a half", d.drawing([[(3, 5), (4, 5)]], width=7)
+    yield "start: one step nearer, Inside", d.drawing([[(1, 5), (5, 6), (9 - 1 / 1024, 5)]], flags=2)
+    yield "orient: last point strictly better", d.drawing([[(4, 4), (0, 0)]])
+    for n in (3, 6, 7, 12):
+        yield f"greedy: star of {n}", d.drawing(star(n))
+        yield f"greedy: star of {n}, closing", d.drawing(star(n), flags=1)
+    row = [[(x, 0) for x in range(9)]] + [[(x, 0), (x, 1 + x % 3)] for x in range(1, 8)]
+    yield "greedy: a row of stubs, nearest pairs tie", d.drawing(row)
+    yield "greedy: a row of stubs, closing", d.drawing(row, flags=1)
+    yield "greedy: a lattice of 4 by 4", d.drawing(
+        [[(x, y) for x in range(4)] for y in range(4)] + [[(x, y) for y in range(4)] for x in range(4)])
+    yield "optimal: a lattice of 4 by 4", d.drawing(
+        [[(x, y) for x in range(4)] for y in range(4)] + [[(x, y) for y in range(4)] for x in range(4)], pairing=1)
+    yield "optimal: a row of stubs, too many for plan's tables", d.drawing(row, pairing=1)
+    for n in (3, 7, 12):
+        yield f"optimal: star of {n}", d.drawing(star(n), pairing=1)
+        yield f"optimal: star of {n}, closing", d.drawing(star(n), pairing=1, flags=1)
+    yield "optimal: two odd nodes need no tables", d.drawing(seg, pairing=1, flags=1), dict(f64=0, byte=0)
+    yield "optimal: no odd node needs no tables", d.drawing([square], pairing=1, flags=1), dict(f64=0, byte=0)
+    yield "optimal: star of 20, tables exact", d.drawing(star(20), pairing=1), dict(f64=2**20 + 400, byte=2**20)
+    yield "optimal: star of 20, an f64 short", d.drawing(star(20), pairing=1), dict(f64=2**20 + 399, byte=2**20)
+    yield "optimal: star of 20, a byte short", d.drawing(star(20), pairing=1), dict(f64=2**20 + 400, byte=2**20 - 1)
+    yield "optimal: star of 22", d.drawing(star(22), pairing=1), dict(f64=2**23, byte=2**23)
+    yield "optimal: star of 14 in plan's tables", d.drawing(star(14), pairing=1)
+    yield "optimal: cross, 15 bytes", d.drawing(CROSS, pairing=1), dict(f64=32, byte=15)
+    yield "order: 22 odd nodes and no tables: 10 before 11", d.drawing(star(22), pairing=1), dict(f64=0, byte=0)
+    yield "order: apart and 22 odd nodes: 9 before 10", d.drawing(star(22) + [[(50, 50)]], pairing=1)
+    yield "order: no tables and no output: 11 before 14", d.drawing(star(4), pairing=1), dict(f64=0, byte=0, output=0)
+    yield "order: apart and no output: 9 before 14", d.drawing([[(0, 0)], [(1, 1)]]), dict(output=0)
+    yield "length: the longest segment, closing", d.drawing([[(-4096, -4096), (4096, 4096)]], flags=1)
+    yield "length: the shortest segment, closing", d.drawing([[(0, 0), (1 / 1024, 0)]], flags=1)
+    yield "length: (27, 17) steps, where the C library's hypot is not the nearest", d.drawing([[(0, 0), (27 / 1024, 17 / 1024)]], flags=1)
+    yield "length: (4,096, 4,095 and 1,023 steps), closing", d.drawing([[(-4096, -4096), (4096, 4095 + 1023 / 1024)]], flags=1)
+    # The next three in grid steps; found by the generator, they change with a rule that is nearly right.
+    yield "retrace: two ways back within 1e-10, the longer one taken", g.write(
+        [[(0, 0), (1502067, 1730103), (3137829, 0)], [(0, 0), (1491291, -1729856), (3137829, 0)],
+         [(0, 0), (1057626, -1688848), (3137829, 0)]], flags=1)
+    yield "retrace: two ways back of one length, whose sums round apart", g.write(
+        [[(-1, -6), (405400, 557515), (406451, 555694), (1050, -1827)], [(406452, 555700), (406451, 555694)],
+         [(405401, 557521), (406452, 555700), (1051, -1821), (0, 0), (-1, -6)], [(405401, 557521), (0, 0)]], pairing=1, flags=3)
+    yield "optimal: the distance from the lower node to the higher decides, by its last bit", g.write(
+        [[(-135, -347), p, q] for p, q in (((-226, -20), (-286, 337)), ((204, -84), (520, 169)), ((141, -578), (378, -784)),
+                                           ((-423, -281), (-732, -209)), ((166, -59), (450, 262)), ((126, -57), (378, 252)))],
+        width=0, pairing=1, flags=1)
+    yield "output: settings only, 6 bytes", d.settings(), dict(output=6)
+    yield "output: settings only, 5 bytes", d.settings(), dict(output=5)
+    yield "output: settings only, none", d.settings(), dict(output=0)
+    yield "output: two points, exact", d.drawing([[(0, 0), (3, 4)]]), dict(output=38)
+    yield "output: two points, a byte short", d.drawing([[(0, 0), (3, 4)]]), dict(output=37)
+    yield "output: cross closing, exact", d.drawing(CROSS, flags=1), dict(output=6 + 16 * 9)
+    yield "output: cross closing, a byte short", d.drawing(CROSS, flags=1), dict(output=5 + 16 * 9)
+    # 1,024 points in rows, and 255 links that each split their own segment twice.
+    path = [(4 * (k % 32 if k // 32 % 2 == 0 else 31 - k % 32), 4 * (k // 32)) for k in range(1024)]
+    within = lambda k, part: tuple(a + (b - a) * part / 4 for a, b in zip(path[k], path[k + 1]))
+    yield "largest: 1,534 nodes, 1,788 edges before repair", d.drawing(
+        [path], [(0, k, within(k, 1), 0, k, within(k, 3)) for k in range(2, 1022, 4)])
+    yield "repair: exactly 4,000 edges, 4,001 points", g.hairpin(997, 3, 0, 1)
+    yield "repair: 4,000 edges, a byte of output short", g.hairpin(997, 3, 0, 1), dict(output=d.PLAN_OUTPUT - 1)
+    yield "repair: 4,001 edges after the closing retrace", g.hairpin(996, 3, 5, 1)
+    yield "repair: 4,001 edges and no output: 13 before 14", g.hairpin(996, 3, 5, 1), dict(output=0)
+    yield "repair: past 4,000 edges with retraces to come", g.hairpin(960, 9, 0, 0)
+
+
+def generated():
+    """Small drawings of the generator's kinds."""
+    wanted = dict(tiny=5, walks=2, lattice=1, lace=2, comb=1, cube=3, near=3, overlap=2, zero=2, links=4, dots=2, empty=1,
+                  pieces=2, optimal=2, damaged=2)
+    for kind, count in wanted.items():
+        rng = random.Random(f"answers {kind}")
+        number = 0
+        while number < count:
+            file, lent = g.KINDS[kind](rng)
+            if 60 <= len(file) <= 800:
+                number += 1
+                yield f"{kind} {number}", file, lent
+
+
+def main():
+    cases = [(name, file, *(lent or [{}])) for make in (from_samples, from_limits, by_hand, generated)
+             for name, file, *lent in make()]
+    lent = [dict(dict(f64=d.PLAN_F64, byte=d.PLAN_BYTES, output=d.PLAN_OUTPUT), **lent) for _, _, lent in cases]
+    batch = b"".join(d.batched(file, **sizes) for (_, file, _), sizes in zip(cases, lent))
+    printed = subprocess.run([sys.argv[1], "--batch"], input=batch, capture_output=True, check=True).stdout.decode()
+    answers = printed.split("--\n")
+    assert answers.pop() == "" and len(answers) == len(cases)
+    for (name, file, _), sizes, answer in zip(cases, lent, answers):
+        print(f"case {name}\nlent {sizes['f64']} {sizes['byte']} {sizes['output']}\n{('file ' + file.hex()).strip()}\n{answer}")
+
+
+main()
