@@ -1,0 +1,5 @@
+-- How lines and links become a graph.
+pub mod Chain
+pub mod Graph
+pub mod Degree
+pub mod Reach

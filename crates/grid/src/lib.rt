@@ -1,0 +1,4 @@
+pub enum Place {
+    On(u32),
+    Off,
+}

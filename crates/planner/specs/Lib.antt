@@ -1,0 +1,2 @@
+-- The answer to a drawing file.
+pub mod Plan

@@ -1,0 +1,5 @@
+-- Which odd nodes are paired, and which way each retrace goes.
+pub mod Distance
+pub mod Retrace
+pub mod Pairing
+pub mod Repair

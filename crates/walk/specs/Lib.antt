@@ -1,0 +1,3 @@
+-- Which line is drawn through the repaired graph.
+pub mod Walk
+pub mod Line
