@@ -1,4 +1,0 @@
-pub enum Place {
-    On(u32),
-    Off,
-}
