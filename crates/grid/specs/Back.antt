@@ -66,15 +66,17 @@ exact s n g G h =
 coordinate-fits : (g p : ℕ) → T (fits binary64 (coordinateOnGrid g p))
 coordinate-fits g p = subst (λ (x : Float). T (fits binary64 x)) (sym (coordinate-is g p)) (round-fits binary64 (ltb p (originOfGrid g)) (gap p (originOfGrid g)) (2 ^ g))
 
+pub coordinate-value : (g p : ℕ) → g ≤ 40 → gap p (originOfGrid g) < 2 ^ 53 → HasValue (coordinateOnGrid g p) (ltb p (originOfGrid g)) (gap p (originOfGrid g)) (2 ^ g)
+coordinate-value g p G h =
+    let o = originOfGrid g in
+    subst (λ (x : Float). HasValue x (ltb p o) (gap p o) (2 ^ g)) (sym (coordinate-is g p)) (exact (ltb p o) (gap p o) g G h)
+
 module _ (g : ℕ) (G : g ≤ 40) where
   origin-small : originOfGrid g < 2 ^ 53
   origin-small = lt-of-le-of-lt (mul-le-mul-left 4096 (pow-mono G)) (omega arith)
 
-  coordinate-value : (p : ℕ) → p ≤ 2 * originOfGrid g → HasValue (coordinateOnGrid g p) (ltb p (originOfGrid g)) (gap p (originOfGrid g)) (2 ^ g)
-  coordinate-value p h =
-      let o = originOfGrid g in
-      let small : gap p o < 2 ^ 53 = omega (arith, origin-small) in
-      subst (λ (x : Float). HasValue x (ltb p o) (gap p o) (2 ^ g)) (sym (coordinate-is g p)) (exact (ltb p o) (gap p o) g G small)
+  small : (p : ℕ) → p ≤ 2 * originOfGrid g → gap p (originOfGrid g) < 2 ^ 53
+  small p h = omega (arith, origin-small)
 
   -- ---- from a place to its pattern and back
 
@@ -84,11 +86,11 @@ module _ (g : ℕ) (G : g ≤ 40) where
       go : (s : Bool) → (T s → p < o) → (T (not s) → o ≤ p) → placeOfSteps o s (gap p o) 1 ≡ On p
       go true l k =
           let below : p < o = l tt in
-          at-place o true (gap p o) (omega arith) (not-T (eqb (gap p o) 0) (λ t. let z : gap p o ≡ 0 = eqb→eq (gap p o) 0 t in omega arith))
+          at-place o true (gap p o) 1 (omega arith) (omega arith) (not-T (eqb (gap p o) 0) (λ t. let z : gap p o ≡ 0 = eqb→eq (gap p o) 0 t in omega arith))
           ∙ ap (λ (n : ℕ). On n) (omega arith)
       go false l k =
           let above : o ≤ p = k tt in
-          at-place o false (gap p o) (omega arith) tt ∙ ap (λ (n : ℕ). On n) (omega arith)
+          at-place o false (gap p o) 1 (omega arith) (omega arith) tt ∙ ap (λ (n : ℕ). On n) (omega arith)
 
   pub read-write-grid : (p : ℕ) → p ≤ 2 * originOfGrid g → readOnGrid g (writeOnGrid g p) ≡ On p
   read-write-grid p h =
@@ -97,7 +99,7 @@ module _ (g : ℕ) (G : g ≤ 40) where
       read-is g (writeOnGrid g p)
       ∙ ap (λ (b : ℕ). placeOnGrid g (ofBits binary64 b)) (write-is g p)
       ∙ ap (λ (x : Float). placeOnGrid g x) (ofBits-toBits binary64 (coordinateOnGrid g p) (coordinate-fits g p))
-      ∙ place-of-value g (coordinateOnGrid g p) (ltb p o) n (2 ^ g) (pow-pos g) (coordinate-value p h)
+      ∙ place-of-value g (coordinateOnGrid g p) (ltb p o) n (2 ^ g) (pow-pos g) (coordinate-value g p G (small p h))
       ∙ same-steps o (ltb p o) (n * 2 ^ g) (2 ^ g) n 1 (pow-pos g) (lit≤ tt) (mul-one (n * 2 ^ g))
       ∙ own-steps o p h
 
@@ -132,7 +134,7 @@ module _ (g : ℕ) (G : g ≤ 40) where
       let z = side s o n p (is .near) (still-plain s a n (λ z. whole ∙ ap (λ (k : ℕ). k * down e) z ∙ zero-mul (down e)) (is .plain)) (is .is) in
       let v : HasValue (coordinateOnGrid g p) s n (2 ^ g) =
       subst (λ (k : ℕ). HasValue (coordinateOnGrid g p) s k (2 ^ g)) (z .2)
-      (subst (λ (t : Bool). HasValue (coordinateOnGrid g p) t (gap p o) (2 ^ g)) (z .1) (coordinate-value p (z .0))) in
+      (subst (λ (t : Bool). HasValue (coordinateOnGrid g p) t (gap p o) (2 ^ g)) (z .1) (coordinate-value g p G (small p (z .0)))) in
       (tt, z .0, pattern-of-value binary64 (coordinateOnGrid g p) s n (2 ^ g) (pow-pos g) v ∙ sym (pattern-of-value binary64 (fin s m e) s n (2 ^ g) (pow-pos g) (refl, whole)))
 
   pub write-read-grid : (b p : ℕ) → b < 2 ^ 64 → readOnGrid g b ≡ On p → (p ≤ 2 * originOfGrid g) × (writeOnGrid g p ≡ b)

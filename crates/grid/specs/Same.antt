@@ -1,7 +1,7 @@
 -- The place of ±a / c steps turns on the number a / c alone, and not on how it is written. Assumes nothing.
 use mathlib.Core.Path.{_≡_, refl, sym, ap, _∙_}
 use Prim.Native.Nat.{ℕ, _+_, _-_, _*_, _/_, _%_, _^_, _≤_, _<_}
-use native.Mathlib.Nat.{mul-comm, mul-right-comm, mul-div-mul-right, mul-mod-left, div-add-mod', div-one, eq-of-mul-eq-mul-right, zero-mul, add-zero}
+use native.Mathlib.Nat.{mul-comm, mul-right-comm, mul-div-mul-right, mul-mod-left, div-add-mod', eq-of-mul-eq-mul-right, zero-mul, add-zero}
 use native.Mathlib.Omega.{arith}
 use mathlib.Core.Bool.{Bool, true, false, not, _&&_, cond}
 use lib.Dec.{T, leb, eqb, eqb→eq, leb→le}
@@ -59,12 +59,12 @@ place-of-value g (fin t m e) s a c C v =
 
 -- ---- what it takes to be at a place
 
-pub at-place : (o : ℕ) (s : Bool) (n : ℕ) → n ≤ o → T (not (s && eqb n 0)) → placeOfSteps o s n 1 ≡ On (cond s (o - n) (o + n))
-at-place o s n h plain =
-    ap (λ (w : Bool). placed o s w (n / 1) (eqb n 0)) (eq-eqb (n % 1) 0 (omega arith))
-    ∙ ap (λ (k : ℕ). placed o s true k (eqb n 0)) (div-one n)
-    ∙ ap (λ (t : Bool). cond (t && not (s && eqb n 0)) (On (cond s (o - n) (o + n))) Off) (le-leb n o h)
-    ∙ ap (λ (t : Bool). cond t (On (cond s (o - n) (o + n))) Off) (is-true (not (s && eqb n 0)) plain)
+pub at-place : (o : ℕ) (s : Bool) (a c : ℕ) → a % c ≡ 0 → a / c ≤ o → T (not (s && eqb a 0)) → placeOfSteps o s a c ≡ On (cond s (o - a / c) (o + a / c))
+at-place o s a c w h plain =
+    let on = On (cond s (o - a / c) (o + a / c)) in
+    ap (λ (t : Bool). cond (t && leb (a / c) o && not (s && eqb a 0)) on Off) (eq-eqb (a % c) 0 w)
+    ∙ ap (λ (t : Bool). cond (t && not (s && eqb a 0)) on Off) (le-leb (a / c) o h)
+    ∙ ap (λ (t : Bool). cond t on Off) (is-true (not (s && eqb a 0)) plain)
 
 pub record Passed (o : ℕ) (s : Bool) (a c p : ℕ) : Type 0 where
   pub is-whole : a % c ≡ 0
