@@ -14,7 +14,7 @@ use lib.Ieee.Exact.{HasValue, round-exact}
 use lib.Ieee.Bits.{ofBits-toBits, toBits-ofBits}
 use borrow.Author.Tests.{lt-ltb, le-ltb}
 use Rattle.grid.specs.declared.Place.the-variants.{On}
-use Rattle.grid.specs.Grid.{gridExponent, origin, originOfGrid, placeOfSteps, placeOnGrid, readOnGrid, readPlace, gap, coordinateOnGrid, coordinate, writeOnGrid, writePlace}
+use Rattle.grid.specs.Grid.{gridExponent, reach, origin, originOfGrid, placeOfSteps, placeOnGrid, readOnGrid, readPlace, gap, coordinateOnGrid, coordinate, writeOnGrid, writePlace}
 use Rattle.grid.specs.Same.{same-quotient, same-steps, place-of-value, at-place, passed}
 
 -- ---- the definitions, opened one step
@@ -73,7 +73,7 @@ coordinate-value g p G h =
 
 module _ (g : ℕ) (G : g ≤ 40) where
   origin-small : originOfGrid g < 2 ^ 53
-  origin-small = lt-of-le-of-lt (mul-le-mul-left 4096 (pow-mono G)) (omega arith)
+  origin-small = lt-of-le-of-lt (mul-le-mul-left reach (pow-mono G)) (omega arith)
 
   small : (p : ℕ) → p ≤ 2 * originOfGrid g → gap p (originOfGrid g) < 2 ^ 53
   small p h = omega (arith, origin-small)

@@ -35,17 +35,13 @@ module _ (a c b d : ℕ) (C : 0 < c) (D : 0 < d) (h : a * d ≡ b * c) where
   none : a ≡ 0 → b ≡ 0
   none z = eq-of-mul-eq-mul-right c C b 0 (sym h ∙ ap (λ (x : ℕ). x * d) z ∙ zero-mul d ∙ sym (zero-mul c))
 
--- `placeOfSteps` by its two tests of the fraction and its quotient
-abbrev placed : ℕ → Bool → Bool → ℕ → Bool → Place
-placed o s w n z = cond (w && leb n o && not (s && z)) (On (cond s (o - n) (o + n))) Off
-
 pub same-steps : (o : ℕ) (s : Bool) (a c b d : ℕ) → 0 < c → 0 < d → a * d ≡ b * c → placeOfSteps o s a c ≡ placeOfSteps o s b d
 same-steps o s a c b d C D h =
-    ap (λ (w : Bool). placed o s w (a / c) (eqb a 0))
-    (same-test (eqb (a % c) 0) (eqb (b % d) 0) (λ t. eq→eqb (whole a c b d C D h (eqb→eq (a % c) 0 t))) (λ t. eq→eqb (whole b d a c D C (sym h) (eqb→eq (b % d) 0 t))))
-    ∙ ap (λ (n : ℕ). placed o s (eqb (b % d) 0) n (eqb a 0)) (same-quotient a c b d C D h)
-    ∙ ap (λ (z : Bool). placed o s (eqb (b % d) 0) (b / d) z)
-    (same-test (eqb a 0) (eqb b 0) (λ t. eq→eqb (none a c b d C D h (eqb→eq a 0 t))) (λ t. eq→eqb (none b d a c D C (sym h) (eqb→eq b 0 t))))
+    let quotient : a / c ≡ b / d = same-quotient a c b d C D h in
+    let wholes : eqb (a % c) 0 ≡ eqb (b % d) 0 =
+    same-test (eqb (a % c) 0) (eqb (b % d) 0) (λ t. eq→eqb (whole a c b d C D h (eqb→eq (a % c) 0 t))) (λ t. eq→eqb (whole b d a c D C (sym h) (eqb→eq (b % d) 0 t))) in
+    let zeros : eqb a 0 ≡ eqb b 0 = same-test (eqb a 0) (eqb b 0) (λ t. eq→eqb (none a c b d C D h (eqb→eq a 0 t))) (λ t. eq→eqb (none b d a c D C (sym h) (eqb→eq b 0 t))) in
+    cc
 
 -- a float's place, from any fraction that says its size
 pub place-of-value : (g : ℕ) (x : Float) (s : Bool) (a c : ℕ) → 0 < c → HasValue x s a c → placeOnGrid g x ≡ placeOfSteps (originOfGrid g) s (a * 2 ^ g) c
@@ -60,11 +56,7 @@ place-of-value g (fin t m e) s a c C v =
 -- ---- what it takes to be at a place
 
 pub at-place : (o : ℕ) (s : Bool) (a c : ℕ) → a % c ≡ 0 → a / c ≤ o → T (not (s && eqb a 0)) → placeOfSteps o s a c ≡ On (cond s (o - a / c) (o + a / c))
-at-place o s a c w h plain =
-    let on = On (cond s (o - a / c) (o + a / c)) in
-    ap (λ (t : Bool). cond (t && leb (a / c) o && not (s && eqb a 0)) on Off) (eq-eqb (a % c) 0 w)
-    ∙ ap (λ (t : Bool). cond (t && not (s && eqb a 0)) on Off) (le-leb (a / c) o h)
-    ∙ ap (λ (t : Bool). cond t on Off) (is-true (not (s && eqb a 0)) plain)
+at-place o s a c w h plain = simp (eq-eqb (a % c) 0 w, le-leb (a / c) o h, is-true (not (s && eqb a 0)) plain)
 
 pub record Passed (o : ℕ) (s : Bool) (a c p : ℕ) : Type 0 where
   pub is-whole : a % c ≡ 0

@@ -67,7 +67,7 @@ returns-4 c =
 returns-5 : tie.Need-returns-5
 returns-5 c =
     let b = c .before .before .before .before .before .args .bits in
-    sym (between b (omega arith) (omega arith) ∙ too-far origin (negative b) (whole b) (2 ^ below b) (c .if5 .taken))
+    sym (between b (omega arith) (omega arith) ∙ too-far origin (negative b) (whole b) (2 ^ below b) (omega arith))
 
 cast-count : tie.Need-cast-count
 cast-count c = search needs
@@ -81,12 +81,12 @@ sub-t11 c = search needs
 returns-6 : tie.Need-returns-6
 returns-6 c =
     let b = c .before .before .before .before .before .before .args .bits in
-    sym (on b (omega arith) (omega arith) (c .before .before .if4 .left) (c .before .if5 .left) ∙ ap (λ (s : Bool). On (cond s (origin - steps b) (origin + steps b))) (lt-leb (2 ^ 63) b (c .if6 .taken)))
+    sym (on b (omega arith) (omega arith) (c .before .before .if4 .left) (omega arith) ∙ ap (λ (s : Bool). On (cond s (origin - steps b) (origin + steps b))) (lt-leb (2 ^ 63) b (omega arith)))
 
 returns-7 : tie.Need-returns-7
 returns-7 c =
     let b = c .before .before .before .before .before .before .args .bits in
-    sym (on b (omega arith) (omega arith) (c .before .before .if4 .left) (c .before .if5 .left) ∙ ap (λ (s : Bool). On (cond s (origin - steps b) (origin + steps b))) (le-leb (2 ^ 63) b (c .if6 .left)))
+    sym (on b (omega arith) (omega arith) (c .before .before .if4 .left) (omega arith) ∙ ap (λ (s : Bool). On (cond s (origin - steps b) (origin + steps b))) (le-leb (2 ^ 63) b (omega arith)))
 
 pub read-place-spec : {M : Type 1} → statement M
 read-place-spec =
