@@ -1,0 +1,69 @@
+// Coordinates: from the 64 bits that a file holds to a place on the grid, and back.
+ghost use mathlib.Core.Path.{_≡_};
+ghost use Rattle.grid.specs.Grid.{readPlace, coordinate, writePlace};
+
+// Where a coordinate lies: so many grid steps from -4,096, or not on the grid.
+pub enum Place {
+    On(u32),
+    Off,
+}
+
+// The place of 0: 4,096 in steps of 1/1,024.
+pub const ORIGIN: u32 = 4_194_304;
+
+// An f64's bits are its sign, eleven digits of exponent and the 52 digits below its leading one.
+// These are the weights of the sign and of the exponent.
+const SIGN: u64 = 0x8000_0000_0000_0000;
+
+const LEADING: u64 = 0x10_0000_0000_0000;
+
+// Check 7, for every pattern. A float whose exponent has the field 1013 is at least one step and less
+// than two; at 1035 it is 4,096 or more. In between, its digits with the leading one are a whole
+// number of steps, which so many of them as the field says lie below: they must be 0.
+pub fn read_place(bits: u64) -> Place
+    ensures { λ r. ⌜ r ≡ readPlace bits ⌝ }
+{
+    if bits == 0 {
+        return Place::On(ORIGIN);
+    }
+    let field = bits / LEADING % 2048;
+    if field < 1013 {
+        return Place::Off;
+    }
+    if field > 1035 {
+        return Place::Off;
+    }
+    let digits = LEADING + bits % LEADING;
+    let below = 1065 - field;
+    let steps = digits >> below;
+    if steps << below != digits {
+        return Place::Off;
+    }
+    if steps > 4_194_304 {
+        return Place::Off;
+    }
+    let count = steps as u32;
+    if bits < SIGN {
+        Place::On(ORIGIN + count)
+    } else {
+        Place::On(ORIGIN - count)
+    }
+}
+
+// The coordinate at a place. Every u32 is far below 2^53, so nothing is rounded.
+pub fn coordinate(place: u32) -> f64
+    ensures { λ r. ⌜ r ≡ coordinate place ⌝ }
+{
+    if place < ORIGIN {
+        (ORIGIN - place) as f64 / -1024.0
+    } else {
+        (place - ORIGIN) as f64 / 1024.0
+    }
+}
+
+// The bits of the coordinate at a place.
+pub fn write_place(place: u32) -> u64
+    ensures { λ r. ⌜ r ≡ writePlace place ⌝ }
+{
+    f64::to_bits(coordinate(place))
+}
