@@ -2,9 +2,10 @@
 use mathlib.Core.Path.{_≡_, refl, sym, ap, _∙_}
 use mathlib.Core.Logic.{_⊎_, inl, inr, ⊎-elim}
 use Prim.Native.Nat.{ℕ, zero, suc, _+_, _-_, _*_, _/_, _^_, _≤_, _<_, zero-le}
-use native.Mathlib.Nat.{le-trans, le-of-eq, le-of-lt, lt-of-lt-of-le, lt-of-le-of-lt, lt-of-not-le, not-le-of-lt, mul-le-mul, mul-le-mul-right, mul-lt-mul-of-pos-right, lt-of-mul-lt-mul-right, mul-assoc, pow-suc}
+use native.Mathlib.Nat.{le-trans, le-of-eq, le-of-lt, lt-of-lt-of-le, lt-of-le-of-lt, lt-of-not-le, not-le-of-lt, mul-le-mul, mul-le-mul-right, mul-lt-mul-of-pos-right, lt-of-mul-lt-mul-right, mul-assoc, zero-mul, pow-suc}
 use native.Mathlib.Decide.{decLe}
 use native.Mathlib.Omega.{arith}
+use lib.Dec.{lit<}
 use lib.Pow.{pow-pos, pow-add, pow-mono}
 use lib.Ieee.{Format, prec, size}
 use lib.Ieee.Digits.{size-lt, size-reaches, size-le}
@@ -25,6 +26,11 @@ places-is f n = refl
 pub significand-is : (f : Format) (n : ℕ) → significand f n ≡ nearRoot (prec f) (n * 4 ^ places f n)
 unfolding significand
 significand-is f n = refl
+
+pub significand-zero : (f : Format) → significand f 0 ≡ 0
+significand-zero f =
+    rw (significand-is f 0, zero-mul (4 ^ places f 0))
+    (⊎-elim (λ w. omega (arith, w .0, root-lt 0 (wholeRoot (prec f) 0) 1 (w .1) (lit< tt))) (λ w. absurd (omega (arith, w .1))) (near-root (prec f) 0 (four-pos (prec f)) .over))
 
 -- n with its places has 2p - 1 or 2p digits
 widened-lt : (p n k : ℕ) → size n + (k + k) ≤ p + p → n * 4 ^ k < 4 ^ p

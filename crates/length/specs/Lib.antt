@@ -6,3 +6,5 @@ pub mod Whole
 pub mod Digits
 pub mod Value
 pub mod Proved
+pub mod Order
+pub mod Length

@@ -2,19 +2,22 @@
 use mathlib.Core.Path.{_≡_, refl, sym, ap, _∙_}
 use mathlib.Core.Logic.{⊎-elim}
 use Prim.Native.Nat.{ℕ, zero, suc, _+_, _-_, _*_, _^_, _≤_, _<_, zero-le}
-use native.Mathlib.Nat.{le-trans, le-of-eq, le-of-lt, lt-of-lt-of-le, lt-of-le-of-lt, le-of-suc-le-suc, lt-of-not-le, not-le-of-lt, mul-le-mul, mul-le-mul-right, mul-lt-mul-of-pos-right, mul-pos, add-zero}
+use native.Mathlib.Nat.{le-trans, le-of-eq, le-of-lt, lt-of-lt-of-le, lt-of-le-of-lt, le-of-suc-le-suc, lt-of-not-le, not-le-of-lt, mul-le-mul, mul-le-mul-right, mul-lt-mul-of-pos-right, mul-pos, zero-mul}
 use native.Mathlib.Decide.{decLe}
 use native.Mathlib.Omega.{arith}
 use lib.Pow.{pow-pos, pow-add}
+use lib.Dec.{T, lit<}
 use lib.Ieee.{Float, Format, prec, low, size}
 use lib.Ieee.Fits.{two, two-le-pos}
-use Rattle.sums.specs.Key.{Nonneg, key, key-digits}
+use lib.Ieee.Digits.{size-le}
+use lib.Ieee.Scale.{finite}
+use Rattle.sums.specs.Key.{Nonneg, key, key-digits, key-inj, value-finite}
 use Rattle.sums.specs.Sum.{round-nonneg, plusZero, zero-nonneg, zero-key}
 use Rattle.length.specs.Root.{square, wholeRoot, places, significand, root, rootOver}
-use Rattle.length.specs.Nearest.{NearestRoot, Negative, exactSquared, middleSquared}
+use Rattle.length.specs.Nearest.{NearestRoot, Negative, exactSquared, middleSquared, nearest-mono}
 use Rattle.length.specs.Whole.{IsNearRoot}
-use Rattle.length.specs.Digits.{four-pos, significand-near, significand-ge, whole-ge, next-step}
-use Rattle.length.specs.Value.{scaled, step, scaled-key, in-steps, step-pos, steps-pos, root-is, root-over-is}
+use Rattle.length.specs.Digits.{four-pos, significand-near, significand-ge, significand-zero, whole-ge, next-step}
+use Rattle.length.specs.Value.{scaled, step, scaled-value, scaled-key, in-steps, step-pos, steps-pos, root-is, root-over-is}
 
 square-le : {a b : ℕ} → a ≤ b → square a ≤ square b
 square-le h = mul-le-mul h h
@@ -85,3 +88,27 @@ root-nearest f n positive short = rw (root-is f n) (scaled-nearest f n short pos
 
 pub root-over-nearest : (f : Format) (e n : ℕ) → 0 < n → size n ≤ 2 * prec f → e ≤ prec f → NearestRoot f e n (rootOver f e n)
 root-over-nearest f e n positive short small = rw (root-over-is f n short e small) (scaled-nearest f n short positive e small)
+
+-- ---- never negative, never infinite, and zero for 0 alone
+module _ (f : Format) (e n : ℕ) (short : size n ≤ 2 * prec f) (small : e ≤ prec f) where
+  pub root-over-nonneg : Nonneg f (rootOver f e n)
+  root-over-nonneg = rw (root-over-is f n short e small) (round-nonneg f (significand f n) (2 ^ (places f n + e)))
+
+  pub root-over-finite : T (finite (rootOver f e n))
+  root-over-finite = rw (root-over-is f n short e small) (value-finite f (scaled f e n) (significand f n) (2 ^ (places f n + e)) (scaled-value f n short e small))
+
+  pub root-over-key : key f (rootOver f e n) ≡ significand f n * step f e n
+  root-over-key = rw (root-over-is f n short e small) (scaled-key f n short e small)
+
+  pub root-over-pos : 0 < n → 0 < key f (rootOver f e n)
+  root-over-pos p = rw root-over-key (mul-pos (lt-of-lt-of-le (pow-pos (prec f - 1)) (significand-ge f n short p)) (step-pos f e n))
+
+  -- nothing lies between 0 and the root of 1
+  pub root-over-least : 0 < n → key f (rootOver f e 1) ≤ key f (rootOver f e n)
+  root-over-least p = nearest-mono f e 1 n (rootOver f e 1) (rootOver f e n) p (root-over-nearest f e 1 (lit< tt) (omega (arith, size-le 1 1 (lit< tt), two f)) small) (root-over-nearest f e n p short small)
+
+pub root-over-zero : (f : Format) (e : ℕ) → e ≤ prec f → rootOver f e 0 ≡ plusZero
+root-over-zero f e small =
+    let short : size 0 ≤ 2 * prec f = le-trans (size-le 0 0 (lit< tt)) zero-le in
+    key-inj f (rootOver f e 0) plusZero (root-over-nonneg f e 0 short small) (zero-nonneg f)
+    (root-over-key f e 0 short small ∙ ap (λ (a : ℕ). a * step f e 0) (significand-zero f) ∙ zero-mul (step f e 0) ∙ sym (zero-key f))

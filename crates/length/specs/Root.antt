@@ -48,10 +48,8 @@ unfolding root div
 rootOver f e n = div f (root f n) (fin false 1 (pos e))
 
 -- the length whose square is n squared steps, on a grid of 2 ^ e steps to a unit
-unfoldable pub lengthAt : ℕ → ℕ → Float
-unfolding rootOver
+abbrev pub lengthAt : ℕ → ℕ → Float
 lengthAt e n = rootOver binary64 e n
 
-unfoldable pub lengthOf : ℕ → Float
-unfolding lengthAt
+abbrev pub lengthOf : ℕ → Float
 lengthOf n = lengthAt gridExponent n

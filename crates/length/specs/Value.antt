@@ -98,14 +98,17 @@ module _ (f : Format) (n : ℕ) (short : size n ≤ 2 * prec f) where
       (key-value f (scaled f e n) (significand f n) (2 ^ j) (round-fits f false (significand f n) (2 ^ j)) (scaled-value e small)
       ∙ ap (λ (x : ℕ). significand f n * 2 ^ x) back ∙ ap (λ (x : ℕ). significand f n * x) (pow-add 2 (low f - j) j) ∙ sym (mul-assoc (significand f n) (2 ^ (low f - j)) (2 ^ j)))
 
-  -- all that `NearestRoot` compares, in squared steps
-  pub in-steps : (e : ℕ) → e ≤ prec f → exactSquared f n ≡ 4 * (n * 4 ^ places f n) * (square (step f e n) * 4 ^ e)
-  in-steps e small =
+  -- 1, and what `NearestRoot` compares, in squared steps
+  pub one-in-steps : (e : ℕ) → e ≤ prec f → square (2 ^ low f) ≡ 4 ^ places f n * (square (step f e n) * 4 ^ e)
+  one-in-steps e small =
       let t = low f - (places f n + e) in
       let h = fits-below e small in
       let back : low f ≡ t + (places f n + e) = omega arith in
       let units : 2 ^ low f ≡ 2 ^ t * (2 ^ places f n * 2 ^ e) = ap (λ (x : ℕ). 2 ^ x) back ∙ pow-add 2 t (places f n + e) ∙ ap (λ (x : ℕ). 2 ^ t * x) (pow-add 2 (places f n) e) in
       rw (units, four (places f n), four e) (omega arith)
+
+  pub in-steps : (e : ℕ) → e ≤ prec f → exactSquared f n ≡ 4 * (n * 4 ^ places f n) * (square (step f e n) * 4 ^ e)
+  in-steps e small = rw (one-in-steps e small) (omega arith)
 
 pub step-pos : (f : Format) (e n : ℕ) → 0 < step f e n
 step-pos f e n = pow-pos (low f - (places f n + e))

@@ -14,7 +14,7 @@ use lib.Ieee.{Float, nan, inf, fin, Format, prec, emax, low, up, down, size, fit
 use lib.Ieee.Fits.{up-pos, down-pos, and-l, and-r, two}
 use lib.Ieee.Bits.{ofBits-toBits, is-true, is-false}
 use lib.Ieee.Exact.{HasValue}
-use lib.Ieee.Scale.{overflow}
+use lib.Ieee.Scale.{overflow, finite}
 
 -- not below zero, not -0 and no NaN: infinity is among these
 abbrev pub nonneg : Float → Bool
@@ -92,6 +92,11 @@ pub key-top : (f : Format) (x : Float) → Nonneg f x → key f x ≤ overflow f
 key-top f nan p = zero-le
 key-top f (inf s) p = le-refl (overflow f)
 key-top f (fin s m e) p = le-of-lt (key-finite f s m e (p .fit))
+
+pub key-below-top : (f : Format) (x : Float) → T (fits f x) → T (finite x) → key f x < overflow f
+key-below-top f nan p t = absurd t
+key-below-top f (inf s) p t = absurd t
+key-below-top f (fin s m e) p t = key-finite f s m e p
 
 -- infinity too is a power of two times a number of few digits
 pub key-digits : (f : Format) (x : Float) → Nonneg f x → (m j : ℕ) × (m < 2 ^ prec f) × (key f x ≡ m * 2 ^ j)
@@ -180,6 +185,11 @@ module _ (f : Format) where
   value-sign nan a c v = absurd v
   value-sign (inf s) a c v = absurd v
   value-sign (fin s m e) a c v = subst (λ (b : Bool). T (not b)) (sym (v .0)) tt
+
+  pub value-finite : (x : Float) (a c : ℕ) → HasValue x false a c → T (finite x)
+  value-finite nan a c v = absurd v
+  value-finite (inf s) a c v = absurd v
+  value-finite (fin s m e) a c v = tt
 
   pub value-inj : (x y : Float) (a c : ℕ) → 0 < c → T (fits f x) → T (fits f y) → HasValue x false a c → HasValue y false a c → x ≡ y
   value-inj x y a c C p q v w =
