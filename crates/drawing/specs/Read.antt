@@ -4,7 +4,7 @@ use mathlib.Core.List.{List, [], _∷_, _++_, map}
 use mathlib.Core.Bool.{Bool, true, false, _&&_, _||_, not}
 use lib.ListN.{length, getD, take, drop}
 use lib.Dec.{eqb, leb, ltb}
-use Rattle.grid.specs.Grid.{readPlace}
+use Rattle.grid.specs.Grid.{readPlace, readOnGrid}
 use Rattle.grid.specs.declared.Place.{Place}
 use Rattle.grid.specs.declared.Place.the-variants.{On, Off}
 use Rattle.drawing.specs.Limits.{mostBytes, mostSide, mostPairing, mostFlags, mostLines, mostPoints, mostLinks}
@@ -59,7 +59,7 @@ onGrid Off = false
 
 -- n points, x then y
 unfoldable pub points : ℕ → List ℕ → List Point
-unfolding number readPlace
+unfolding number readOnGrid
 points zero bs = []
 points (suc n) bs = record { x = placeAt (readPlace (number 8 bs)); y = placeAt (readPlace (number 8 (drop 8 bs))) } ∷ points n (drop 16 bs)
 
@@ -142,7 +142,7 @@ countsFit d =
 
 -- 7: a line's body is coordinates, and so is a link's from its ninth byte on
 unfoldable pub coordinatesFit : List Record → Bool
-unfolding every words bodies readPlace
+unfolding every words bodies readOnGrid
 coordinatesFit rs =
     every (λ (b : List ℕ). every (λ (w : ℕ). onGrid (readPlace w)) (words (length b / 8) b)) (bodies 2 rs)
     && every (λ (b : List ℕ). every (λ (w : ℕ). onGrid (readPlace w)) (words 4 (drop 8 b))) (bodies 3 rs)

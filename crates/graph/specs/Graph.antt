@@ -5,7 +5,7 @@ use mathlib.Core.Bool.{Bool, true, false}
 use lib.ListN.{length, getD}
 use lib.Dec.{eqb, ltb}
 use lib.Ieee.{Float}
-use Rattle.length.specs.Length.{lengthOf}
+use Rattle.length.specs.Root.{lengthOf, rootOver}
 use Rattle.drawing.specs.Drawing.{Point, same, Drawing}
 use Rattle.graph.specs.Chain.{Stroke, squared, piecesOf, linksOf, usesOf}
 
@@ -39,7 +39,7 @@ abbrev pub edge : ℕ → ℕ → Float → Edge
 edge u v w = record { a = u; b = v; weight = w }
 
 unfoldable pub edgeOf : List Point → Stroke → Edge
-unfolding find lengthOf
+unfolding find rootOver
 edgeOf ns s = edge (nodeOf ns (s .from)) (nodeOf ns (s .to)) (lengthOf (squared (s .from) (s .to)))
 
 pub record Graph : Type 0 where

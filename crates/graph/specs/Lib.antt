@@ -2,4 +2,6 @@
 pub mod Chain
 pub mod Graph
 pub mod Degree
+pub mod Count
+pub mod Ways
 pub mod Reach

@@ -1,2 +1,4 @@
--- The answer to a drawing file.
+-- The answer to a drawing file, and demand 3.
 pub mod Plan
+pub mod Words
+pub mod Demand3

@@ -5,7 +5,7 @@ use mathlib.Core.Bool.{Bool, true, false, not}
 use lib.ListN.{length, drop}
 use lib.Dec.{eqb, ltb}
 use lib.Ieee.{Float, binary64, toBits}
-use Rattle.grid.specs.Grid.{writePlace}
+use Rattle.grid.specs.Grid.{writePlace, writeOnGrid}
 use Rattle.drawing.specs.Limits.{mostOdd}
 use Rattle.drawing.specs.Bytes.{bytes}
 use Rattle.drawing.specs.Drawing.{Point, Settings, Drawing}
@@ -27,7 +27,7 @@ pub record Lent : Type 0 where
 -- ---- the kind 4 record
 
 unfoldable pub pointBytes : List Point → List ℕ
-unfolding bytes writePlace
+unfolding bytes writeOnGrid
 pointBytes [] = []
 pointBytes (p ∷ ps) = bytes 8 (writePlace (p .x)) ++ bytes 8 (writePlace (p .y)) ++ pointBytes ps
 
