@@ -17,8 +17,7 @@ NoneOdd file = (p : Point) → odd p file ≡ false
 -- of a line with points, the first of them and those after it
 pub record Ends (file : List ℕ) (first : Point) (rest : List Point) : Type 0 where
   -- it ends where it began exactly when closing was chosen or no point was odd
-  pub closed : (closing (drawingIn file .settings) ≡ true) ⊎ NoneOdd file → lastOf first rest ≡ first
-  pub open : lastOf first rest ≡ first → (closing (drawingIn file .settings) ≡ true) ⊎ NoneOdd file
+  pub closed : (lastOf first rest ≡ first) ↔ ((closing (drawingIn file .settings) ≡ true) ⊎ NoneOdd file)
   -- otherwise its two ends are the two points that repair left odd, one each
   pub two : (lastOf first rest ≡ first → ⊥) → (p : Point) → (leftOdd p file ≡ true) ↔ ((p ≡ first) ⊎ (p ≡ lastOf first rest))
 
