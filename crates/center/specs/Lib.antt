@@ -1,0 +1,2 @@
+-- Distances from the centre of the canvas.
+pub mod Center
