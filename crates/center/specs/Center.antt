@@ -4,7 +4,7 @@
 use Prim.Native.Nat.{ℕ, _+_, _*_, _^_, _≤_}
 use mathlib.Core.Bool.{Bool, true, false}
 use lib.Dec.{ltb}
-use Rattle.grid.specs.Grid.{gridExponent, origin, originOfGrid, gap}
+use Rattle.grid.specs.Grid.{gridExponent, originOfGrid, gap}
 
 -- the largest width and height that check 5 passes
 abbrev pub largestSide : ℕ
@@ -32,8 +32,11 @@ better true a b = ltb a b
 better false a b = ltb b a
 
 -- a canvas that check 5 passes, and a point that check 7 does
-pub record Within (width height x y : ℕ) : Type 0 where
+pub record WithinGrid (g width height x y : ℕ) : Type 0 where
   pub wide : width ≤ largestSide
   pub high : height ≤ largestSide
-  pub across : x ≤ 2 * origin
-  pub along : y ≤ 2 * origin
+  pub across : x ≤ 2 * originOfGrid g
+  pub along : y ≤ 2 * originOfGrid g
+
+abbrev pub Within : ℕ → ℕ → ℕ → ℕ → Type 0
+Within width height x y = WithinGrid gridExponent width height x y
