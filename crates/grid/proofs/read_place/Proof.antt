@@ -64,6 +64,9 @@ returns-4 c =
     let b = c .before .before .before .before .args .bits in
     sym (between b (omega arith) (omega arith) ∙ part-of-step origin (negative b) (whole b) (2 ^ below b) (shifts-off (whole b) (2 ^ below b) (whole-fits b) (c .if4 .taken)))
 
+cast-if5 : tie.Need-cast-if5
+cast-if5 c = search needs
+
 returns-5 : tie.Need-returns-5
 returns-5 c =
     let b = c .before .before .before .before .before .args .bits in
@@ -100,6 +103,7 @@ read-place-spec =
     shr-steps
     shl-if4
     returns-4
+    cast-if5
     returns-5
     cast-count
     add-t10
