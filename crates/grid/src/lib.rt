@@ -11,18 +11,20 @@ pub enum Place {
 // The place of 0: 4,096 in steps of 1/1,024.
 pub const ORIGIN: u32 = 4_194_304;
 
-// An f64's bits are its sign, eleven digits of exponent and the 52 digits below its leading one.
-// These are the weights of the sign and of the leading one.
+// An f64's bits are its sign, the field of its exponent, which has eleven digits, and the 52 digits
+// below its leading one. This is the weight of the sign.
 const SIGN: u64 = 0x8000_0000_0000_0000;
 
+// The weight of the field, and of the leading one.
 const LEADING: u64 = 0x10_0000_0000_0000;
 
-// The field of the exponent: of one step, 2^-10; of the largest coordinate, 2^12; and where all 52
-// digits below the leading one count whole steps.
+// The field of one step, 2^-10.
 const ONE_STEP: u64 = 1013;
 
+// The field of the largest coordinate, 2^12.
 const LARGEST: u64 = 1035;
 
+// The field at which all 52 digits below the leading one count whole steps.
 const ALL_WHOLE: u64 = 1065;
 
 // Check 7, for every pattern: the place, or Off. Below the field of one step nothing but 0 is a
