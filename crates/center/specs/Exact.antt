@@ -14,11 +14,16 @@ use lib.Ieee.Exact.{HasValue}
 use lib.Ieee.Scale.{round-same}
 use Rattle.grid.specs.Grid.{originOfGrid, gap, coordinateOnGrid}
 use Rattle.grid.specs.Same.{same-test}
-use Rattle.grid.specs.Back.{exact, coordinate-value}
+use Rattle.grid.specs.Back.{exact-fraction, coordinate-value}
 use Rattle.grid.proofs.Quotient.{quotient}
+<<<<<<< HEAD
 use Rattle.limits.specs.Limits.{mostSide}
 use Rattle.center.specs.Center.{fromMiddleOnGrid, fromCenterOnGrid, better, WithinGrid}
 use Rattle.center.specs.Source.{middle, mulAdd, distanceSquared, nodeDistance, endDistance, betterFloat}
+=======
+use Rattle.center.specs.Center.{largestSide, fromMiddleOnGrid, fromCenterOnGrid, better, WithinGrid}
+use Rattle.center.specs.Source.{middle, mulAdd, distanceSquared, nodeDistance, endDistance, betterFloat, worst}
+>>>>>>> grid
 
 -- ---- an operation on two values turns on their fractions alone
 
@@ -59,7 +64,7 @@ unfolding sum
 exact-sum s t a b g G h = go (Bool·beq s t) (ltb a b) (ltb→lt a b) (nltb→le a b)
   where
     one : (u : Bool) (n : ℕ) → n < 2 ^ 53 → Equals (round binary64 u n (2 ^ g)) n (2 ^ g)
-    one u n l = size-of (round binary64 u n (2 ^ g)) u n (2 ^ g) (exact u n g G l)
+    one u n l = size-of (round binary64 u n (2 ^ g)) u n (2 ^ g) (exact-fraction u n g G l)
 
     is : (u : Bool) (n k : ℕ) → n < 2 ^ 53 → n ≡ k → Equals (round binary64 u n (2 ^ g)) k (2 ^ g)
     is u n k l e = subst (λ (x : ℕ). Equals (round binary64 u n (2 ^ g)) x (2 ^ g)) e (one u n l)
@@ -92,6 +97,9 @@ unlike-self : (s : Bool) → unlike s s ≡ false
 unlike-self true = refl
 unlike-self false = refl
 
+squared : (u c n d : ℕ) → u * c ≡ n * d → u * u * (c * c) ≡ n * n * (d * d)
+squared u c n d h = mul-mul-mul-comm u u c c ∙ ap₂ (λ (x y : ℕ). x * y) h h ∙ mul-mul-mul-comm n d n d
+
 square : (x : Float) (n c : ℕ) → 0 < c → Equals x n c → mul binary64 x x ≡ round binary64 false (n * n) (c * c)
 unfolding mul
 square nan n c p v = absurd v
@@ -100,7 +108,7 @@ square (fin s m e) n c p v =
     let u = m * up e in
     ap (λ (t : Bool). round binary64 t (u * u) (down e * down e)) (unlike-self s)
     ∙ round-same binary64 false (u * u) (down e * down e) (n * n) (c * c) (mul-pos (down-pos e) (down-pos e)) (mul-pos p p)
-    (mul-mul-mul-comm u u c c ∙ ap₂ (λ (x y : ℕ). x * y) v v ∙ mul-mul-mul-comm n (down e) n (down e))
+    (squared u c n (down e) v)
 
 -- x * x + z, for a z that is not negative
 square-and : (x z : Float) (n k c : ℕ) → 0 < c → Equals x n c → HasValue z false k (c * c) → mulAdd x x z ≡ round binary64 false (n * n + k) (c * c)
@@ -112,7 +120,7 @@ square-and (fin s m e) (inf t) n k c p v w = absurd w
 square-and (fin s m e) (fin t l d) n k c p v w =
     let u = m * up e in
     let D = down e * down e in
-    let h : u * u * (c * c) ≡ n * n * D = mul-mul-mul-comm u u c c ∙ ap₂ (λ (x y : ℕ). x * y) v v ∙ mul-mul-mul-comm n (down e) n (down e) in
+    let h : u * u * (c * c) ≡ n * n * D = squared u c n (down e) v in
     ap₂ (λ (q r : Bool). sum binary64 q (u * u * down d) r (l * up d * D) (D * down d)) (unlike-self s) (w .0)
     ∙ same-sum false false (u * u * down d) (l * up d * D) (D * down d) (n * n) k (c * c) (mul-pos (mul-pos (down-pos e) (down-pos e)) (down-pos d)) (mul-pos p p)
     (omega (arith, ap (λ (x : ℕ). x * down d) h))
@@ -133,6 +141,10 @@ lt-values (fin s m e) (fin t n d) a b c p v w =
     (omega (arith, ap (λ (x : ℕ). x * down e) (w .1)))
 
 -- ---- on a grid of 1 / 2 ^ g, in half steps
+
+-- how many squared half steps come to 1
+abbrev pub unit : ℕ → ℕ
+unit g = 2 ^ suc g * 2 ^ suc g
 
 module _ (g : ℕ) (G : g ≤ 11) where
   steps-small : 2 ^ g ≤ 2 ^ 11
@@ -160,7 +172,7 @@ module _ (g : ℕ) (G : g ≤ 11) where
   middle-value : (side : ℕ) → side ≤ mostSide → HasValue (middle side) false (side * 2 ^ g) (2 ^ suc g)
   middle-value side h =
       halves (middle side) side
-      (subst (λ (x : Float). HasValue x false side (2 ^ 1)) (sym (middle-is side (omega arith))) (exact false side 1 (lit≤ tt) (omega arith)))
+      (subst (λ (x : Float). HasValue x false side (2 ^ 1)) (sym (middle-is side (omega arith))) (exact-fraction false side 1 (lit≤ tt) (omega arith)))
 
   -- a side's 2 ^ g * side is at most 2 ^ g * 8,192
   side-small : (side : ℕ) → side ≤ mostSide → side * 2 ^ g ≤ 8192 * 2 ^ g
@@ -194,12 +206,11 @@ module _ (g : ℕ) (G : g ≤ 11) where
         let h : n ≤ 2 ^ 25 = omega (arith, steps-small, side-small side S) in
         mul-le-mul h h
 
-  -- a squared half step is 1 / (2 ^ suc g * 2 ^ suc g)
-  exact-square : (n : ℕ) → n < 2 ^ 53 → HasValue (round binary64 false n (2 ^ suc g * 2 ^ suc g)) false n (2 ^ suc g * 2 ^ suc g)
-  exact-square n h = subst (λ (d : ℕ). HasValue (round binary64 false n d) false n d) (pow-add 2 (suc g) (suc g)) (exact false n (suc g + suc g) (omega arith) h)
+  exact-square : (n : ℕ) → n < 2 ^ 53 → HasValue (round binary64 false n (unit g)) false n (unit g)
+  exact-square n h = subst (λ (d : ℕ). HasValue (round binary64 false n d) false n d) (pow-add 2 (suc g) (suc g)) (exact-fraction false n (suc g + suc g) (omega arith) h)
 
   squares : (dx dy : Float) (n k : ℕ) → k * k ≤ 2 ^ 50 → Equals dx n (2 ^ suc g) → Equals dy k (2 ^ suc g)
-      → mulAdd dx dx (mul binary64 dy dy) ≡ round binary64 false (n * n + k * k) (2 ^ suc g * 2 ^ suc g)
+      → mulAdd dx dx (mul binary64 dy dy) ≡ round binary64 false (n * n + k * k) (unit g)
   squares dx dy n k K v w =
       let c = 2 ^ suc g in
       square-and dx (mul binary64 dy dy) n (k * k) c (pow-pos (suc g)) v
@@ -209,14 +220,14 @@ module _ (g : ℕ) (G : g ≤ 11) where
 
   module _ (width height x y : ℕ) (W : WithinGrid g width height x y) where
     -- `hierholzer` takes the centre from the point
-    distance-of-node : nodeDistance g width height x y ≡ round binary64 false (fromCenterOnGrid g width height x y) (2 ^ suc g * 2 ^ suc g)
+    distance-of-node : nodeDistance g width height x y ≡ round binary64 false (fromCenterOnGrid g width height x y) (unit g)
     unfolding distanceSquared fromCenterOnGrid
     distance-of-node =
         squares (sub binary64 (coordinateOnGrid g x) (middle width)) (sub binary64 (coordinateOnGrid g y) (middle height)) (fromMiddleOnGrid g width x) (fromMiddleOnGrid g height y)
         (square-small height y (W .high) (W .along)) (to-middle width x (W .wide) (W .across)) (to-middle height y (W .high) (W .along))
 
     -- `orient_path` takes the point from the centre
-    distance-of-end : endDistance g width height x y ≡ round binary64 false (fromCenterOnGrid g width height x y) (2 ^ suc g * 2 ^ suc g)
+    distance-of-end : endDistance g width height x y ≡ round binary64 false (fromCenterOnGrid g width height x y) (unit g)
     unfolding distanceSquared fromCenterOnGrid
     distance-of-end =
         squares (sub binary64 (middle width) (coordinateOnGrid g x)) (sub binary64 (middle height) (coordinateOnGrid g y)) (fromMiddleOnGrid g width x) (fromMiddleOnGrid g height y)
@@ -226,27 +237,41 @@ module _ (g : ℕ) (G : g ≤ 11) where
     unfolding fromCenterOnGrid
     center-small = omega (arith, square-small width x (W .wide) (W .across), square-small height y (W .high) (W .along))
 
-    distance-exact : HasValue (round binary64 false (fromCenterOnGrid g width height x y) (2 ^ suc g * 2 ^ suc g)) false (fromCenterOnGrid g width height x y) (2 ^ suc g * 2 ^ suc g)
+    distance-exact : HasValue (round binary64 false (fromCenterOnGrid g width height x y) (unit g)) false (fromCenterOnGrid g width height x y) (unit g)
     distance-exact = exact-square (fromCenterOnGrid g width height x y) center-small
 
     -- nothing is rounded: both are so many squared half steps
-    pub node-exact : HasValue (nodeDistance g width height x y) false (fromCenterOnGrid g width height x y) (2 ^ suc g * 2 ^ suc g)
-    node-exact = subst (λ (d : Float). HasValue d false (fromCenterOnGrid g width height x y) (2 ^ suc g * 2 ^ suc g)) (sym distance-of-node) distance-exact
+    pub node-exact : HasValue (nodeDistance g width height x y) false (fromCenterOnGrid g width height x y) (unit g)
+    node-exact = subst (λ (d : Float). HasValue d false (fromCenterOnGrid g width height x y) (unit g)) (sym distance-of-node) distance-exact
 
-    pub end-exact : HasValue (endDistance g width height x y) false (fromCenterOnGrid g width height x y) (2 ^ suc g * 2 ^ suc g)
-    end-exact = subst (λ (d : Float). HasValue d false (fromCenterOnGrid g width height x y) (2 ^ suc g * 2 ^ suc g)) (sym distance-of-end) distance-exact
+    pub end-exact : HasValue (endDistance g width height x y) false (fromCenterOnGrid g width height x y) (unit g)
+    end-exact = subst (λ (d : Float). HasValue d false (fromCenterOnGrid g width height x y) (unit g)) (sym distance-of-end) distance-exact
 
   -- ---- so the source's choices are those of the whole numbers
 
-  same-choice : (inside : Bool) (d e : Float) (a b : ℕ) → HasValue d false a (2 ^ suc g * 2 ^ suc g) → HasValue e false b (2 ^ suc g * 2 ^ suc g) → betterFloat inside d e ≡ better inside a b
-  same-choice true d e a b v w = lt-values d e a b (2 ^ suc g * 2 ^ suc g) (mul-pos (pow-pos (suc g)) (pow-pos (suc g))) v w
-  same-choice false d e a b v w = lt-values e d b a (2 ^ suc g * 2 ^ suc g) (mul-pos (pow-pos (suc g)) (pow-pos (suc g))) w v
+  unit-pos : 0 < unit g
+  unit-pos = mul-pos (pow-pos (suc g)) (pow-pos (suc g))
+
+  same-choice : (inside : Bool) (d e : Float) (a b : ℕ) → HasValue d false a (unit g) → HasValue e false b (unit g) → betterFloat inside d e ≡ better inside a b
+  same-choice true d e a b v w = lt-values d e a b (unit g) unit-pos v w
+  same-choice false d e a b v w = lt-values e d b a (unit g) unit-pos w v
 
   module _ (inside : Bool) (width height x y p q : ℕ) (A : WithinGrid g width height x y) (B : WithinGrid g width height p q) where
+    -- `hierholzer`: whether the node at x and y takes the place of the one at p and q
     pub same-start : betterFloat inside (nodeDistance g width height x y) (nodeDistance g width height p q) ≡ better inside (fromCenterOnGrid g width height x y) (fromCenterOnGrid g width height p q)
-    same-start =
-        same-choice inside (nodeDistance g width height x y) (nodeDistance g width height p q) (fromCenterOnGrid g width height x y) (fromCenterOnGrid g width height p q) (node-exact width height x y A) (node-exact width height p q B)
+    same-start = same-choice inside _ _ _ _ (node-exact width height x y A) (node-exact width height p q B)
 
+    -- `orient_path`: whether the end at x and y is better than the one at p and q
     pub same-turn : betterFloat inside (endDistance g width height x y) (endDistance g width height p q) ≡ better inside (fromCenterOnGrid g width height x y) (fromCenterOnGrid g width height p q)
-    same-turn =
-        same-choice inside (endDistance g width height x y) (endDistance g width height p q) (fromCenterOnGrid g width height x y) (fromCenterOnGrid g width height p q) (end-exact width height x y A) (end-exact width height p q B)
+    same-turn = same-choice inside _ _ _ _ (end-exact width height x y A) (end-exact width height p q B)
+
+  finite-better : (inside : Bool) (d : Float) (a : ℕ) → HasValue d false a (unit g) → betterFloat inside d (worst inside) ≡ true
+  unfolding lt
+  finite-better inside nan a v = absurd v
+  finite-better inside (inf s) a v = absurd v
+  finite-better true (fin s m e) a v = refl
+  finite-better false (fin s m e) a v = refl
+
+  -- `hierholzer`'s first candidate is always taken
+  pub first-taken : (inside : Bool) (width height x y : ℕ) → WithinGrid g width height x y → betterFloat inside (nodeDistance g width height x y) (worst inside) ≡ true
+  first-taken inside width height x y W = finite-better inside (nodeDistance g width height x y) (fromCenterOnGrid g width height x y) (node-exact width height x y W)

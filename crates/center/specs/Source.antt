@@ -41,3 +41,8 @@ endDistance g width height x y = distanceSquared (middle width) (middle height) 
 abbrev pub betterFloat : Bool → Float → Float → Bool
 betterFloat true a b = lt a b
 betterFloat false a b = lt b a
+
+-- what `hierholzer` compares its first candidate with: `f64::INFINITY` for Inside, and `f64::NEG_INFINITY` for Outside
+abbrev pub worst : Bool → Float
+worst true = inf false
+worst false = inf true

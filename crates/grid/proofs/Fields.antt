@@ -5,47 +5,36 @@ use Prim.Native.Nat.{ℕ, zero, suc, _+_, _-_, _*_, _/_, _%_, _^_, _≤_, _<_}
 use native.Mathlib.Nat.{mul-assoc, zero-mul, mul-pos, mod-eq-of-lt, div-add-mod', div-mul-le-self, le-div-iff-mul-le, mul-le-mul-right, mul-lt-mul-of-pos-right, lt-of-lt-of-le, lt-of-le-of-lt, le-trans, le-of-eq, eq-or-lt-of-le, eq-zero-or-pos}
 use native.Mathlib.Omega.{arith}
 use mathlib.Core.Logic.{inl, inr}
-use mathlib.Core.Bool.{Bool, true, false, not, _&&_, cond}
-use lib.Dec.{T, leb, eqb, not-T, eqb→eq, lit<}
+use mathlib.Core.Bool.{Bool, true, false, _&&_, cond}
+use lib.Dec.{leb, eqb, not-T, eqb→eq, lit<}
 use lib.Pow.{pow-add, pow-pos, pow-mono, shl-lt, field}
 use lib.Ieee.{nan, inf, Format, binary64, prec, low, odd, hid, ones, ofFields, ofBits}
 use lib.Ieee.Exact.{odd-sign}
 use lib.Ieee.Bits.{cond-no}
 use borrow.Author.Tests.{le-leb, lt-leb, ne-eqb}
-use Rattle.grid.specs.declared.Place.{Place}
-use Rattle.grid.specs.declared.Place.the-variants.{On, Off}
+use Rattle.grid.specs.declared.Place.the-variants.{Off}
 use Rattle.grid.specs.Grid.{originOfGrid, placeOfSteps, placeOnGrid, readOnGrid}
 use Rattle.grid.specs.Same.{same-steps, place-of-value}
 use Rattle.grid.specs.Back.{read-is}
 
 -- ---- what puts a number of steps off the grid
 
-no-steps : (t u : Bool) (p : Place) → t ≡ false → cond (t && u) p Off ≡ Off
-no-steps t u p e = ap (λ (t : Bool). cond (t && u) p Off) e
-
 and-no : (t : Bool) → (t && false) ≡ false
 and-no true = refl
 and-no false = refl
 
 pub part-of-step : (o : ℕ) (s : Bool) (a c : ℕ) → 0 < a % c → placeOfSteps o s a c ≡ Off
-part-of-step o s a c h =
-    ap (λ (t : Bool). cond (t && leb (a / c) o && not (s && eqb a 0)) (On (cond s (o - a / c) (o + a / c))) Off) (ne-eqb (a % c) 0 (λ e. omega arith))
+part-of-step o s a c h = simp (ne-eqb (a % c) 0 (λ e. omega arith))
 
 pub too-far : (o : ℕ) (s : Bool) (a c : ℕ) → o < a / c → placeOfSteps o s a c ≡ Off
-too-far o s a c h =
-    no-steps (eqb (a % c) 0 && leb (a / c) o) (not (s && eqb a 0)) (On (cond s (o - a / c) (o + a / c)))
-    (ap (λ (t : Bool). eqb (a % c) 0 && t) (lt-leb (a / c) o h) ∙ and-no (eqb (a % c) 0))
+too-far o s a c h = simp (lt-leb (a / c) o h, and-no)
 
 negative-zero : (o c : ℕ) → placeOfSteps o true 0 c ≡ Off
-negative-zero o c = ap (λ (t : Bool). cond t (On (o - 0 / c)) Off) (and-no (eqb (0 % c) 0 && leb (0 / c) o))
+negative-zero o c = simp and-no
 
 -- less than one step, and not zero
 under-one : (o : ℕ) (s : Bool) (a c : ℕ) → 0 < a → a < c → placeOfSteps o s a c ≡ Off
 under-one o s a c p h = part-of-step o s a c (subst (λ (r : ℕ). 0 < r) (sym (mod-eq-of-lt h)) p)
-
-pub not-negative-zero : (s : Bool) (a : ℕ) → 0 < a → T (not (s && eqb a 0))
-not-negative-zero true a h = not-T (eqb a 0) (λ t. let z = eqb→eq a 0 t in omega arith)
-not-negative-zero false a h = tt
 
 -- ---- a pattern's fields: its sign, its exponent's and its digits
 

@@ -11,7 +11,7 @@ use lib.Ieee.{Float, nan, inf, fin, binary64, up, down, unlike, round, div, ofIn
 use lib.Ieee.Fits.{down-pos}
 use lib.Ieee.Exact.{HasValue}
 use lib.Ieee.Scale.{round-same}
-use Rattle.grid.specs.Back.{exact}
+use Rattle.grid.specs.Back.{exact-fraction}
 
 positive-by : (t : Bool) → unlike false t ≡ t
 positive-by true = refl
@@ -32,4 +32,4 @@ unfolding ofInt
 of-int n = refl
 
 pub quotient : (t : Bool) (n g : ℕ) → n < 2 ^ 53 → div binary64 (ofInt binary64 (pos n)) (fin t 1 (pos g)) ≡ round binary64 t n (2 ^ g)
-quotient t n g h = ap (λ (x : Float). div binary64 x (fin t 1 (pos g))) (of-int n) ∙ fraction (round binary64 false n 1) t n g (exact false n 0 (lit≤ tt) h)
+quotient t n g h = ap (λ (x : Float). div binary64 x (fin t 1 (pos g))) (of-int n) ∙ fraction (round binary64 false n 1) t n g (exact-fraction false n 0 (lit≤ tt) h)

@@ -2,7 +2,7 @@
 -- Proved for every grid of 1 / 2 ^ g with g at most 40, on which each place's number of steps fits an f64's 53 digits, and so for the grid of every file. Assumes nothing.
 use mathlib.Core.Path.{_≡_, refl, sym, ap, _∙_, subst}
 use Prim.Native.Nat.{ℕ, zero, suc, _+_, _-_, _*_, _/_, _^_, _≤_, _<_}
-use native.Mathlib.Nat.{mul-assoc, mul-one, mul-right-comm, div-add-mod', add-zero, zero-mul, lt-of-le-of-lt, lt-of-lt-of-le, mul-le-mul-left}
+use native.Mathlib.Nat.{mul-assoc, mul-one, zero-mul, lt-of-le-of-lt, lt-of-lt-of-le, mul-le-mul-left}
 use native.Mathlib.Omega.{arith}
 use mathlib.Core.Bool.{Bool, true, false, not, _&&_, cond}
 use lib.Dec.{T, ltb, eqb, lit≤, ltb→lt, nltb→le, eqb→eq, T-not, not-T}
@@ -15,7 +15,7 @@ use lib.Ieee.Bits.{ofBits-toBits, toBits-ofBits}
 use borrow.Author.Tests.{lt-ltb, le-ltb}
 use Rattle.grid.specs.declared.Place.the-variants.{On}
 use Rattle.grid.specs.Grid.{gridExponent, reach, origin, originOfGrid, placeOfSteps, placeOnGrid, readOnGrid, readPlace, gap, coordinateOnGrid, coordinate, writeOnGrid, writePlace}
-use Rattle.grid.specs.Same.{same-quotient, same-steps, place-of-value, at-place, passed}
+use Rattle.grid.specs.Same.{divided, scaled, not-negative-zero, same-quotient, same-steps, place-of-value, at-place, passed}
 
 -- ---- the definitions, opened one step
 
@@ -49,15 +49,15 @@ pattern-of-value f (fin t m e) s a c C v =
     ∙ ap (λ (t : Bool). pattern f t (m * up e * 2 ^ low f / down e)) (v .0)
     ∙ ap (λ (n : ℕ). pattern f s n)
     (same-quotient (m * up e * 2 ^ low f) (down e) (a * 2 ^ low f) c (down-pos e) C
-    (mul-right-comm (m * up e) (2 ^ low f) c ∙ ap (λ (x : ℕ). x * 2 ^ low f) (v .1) ∙ mul-right-comm a (down e) (2 ^ low f)))
+    (scaled (m * up e) (down e) a c (2 ^ low f) (v .1)))
 
 -- ---- the float at a place is exact
 
 split : (l g : ℕ) → g ≤ l → 2 ^ l ≡ 2 ^ (l - g) * 2 ^ g
 split l g h = let e : l ≡ l - g + g = omega arith in ap (λ (x : ℕ). 2 ^ x) e ∙ pow-add 2 (l - g) g
 
-pub exact : (s : Bool) (n g : ℕ) → g ≤ 40 → n < 2 ^ 53 → HasValue (round binary64 s n (2 ^ g)) s n (2 ^ g)
-exact s n g G h =
+pub exact-fraction : (s : Bool) (n g : ℕ) → g ≤ 40 → n < 2 ^ 53 → HasValue (round binary64 s n (2 ^ g)) s n (2 ^ g)
+exact-fraction s n g G h =
     let j = 1074 - g in
     let top : 53 + j ≤ 2098 = omega arith in
     round-exact binary64 s n (2 ^ g) n j (pow-pos g) h (lt-of-lt-of-le (shl-lt 53 j h) (pow-mono top))
@@ -69,7 +69,7 @@ coordinate-fits g p = subst (λ (x : Float). T (fits binary64 x)) (sym (coordina
 pub coordinate-value : (g p : ℕ) → g ≤ 40 → gap p (originOfGrid g) < 2 ^ 53 → HasValue (coordinateOnGrid g p) (ltb p (originOfGrid g)) (gap p (originOfGrid g)) (2 ^ g)
 coordinate-value g p G h =
     let o = originOfGrid g in
-    subst (λ (x : Float). HasValue x (ltb p o) (gap p o) (2 ^ g)) (sym (coordinate-is g p)) (exact (ltb p o) (gap p o) g G h)
+    subst (λ (x : Float). HasValue x (ltb p o) (gap p o) (2 ^ g)) (sym (coordinate-is g p)) (exact-fraction (ltb p o) (gap p o) g G h)
 
 module _ (g : ℕ) (G : g ≤ 40) where
   origin-small : originOfGrid g < 2 ^ 53
@@ -86,7 +86,7 @@ module _ (g : ℕ) (G : g ≤ 40) where
       go : (s : Bool) → (T s → p < o) → (T (not s) → o ≤ p) → placeOfSteps o s (gap p o) 1 ≡ On p
       go true l k =
           let below : p < o = l tt in
-          at-place o true (gap p o) 1 (omega arith) (omega arith) (not-T (eqb (gap p o) 0) (λ t. let z : gap p o ≡ 0 = eqb→eq (gap p o) 0 t in omega arith))
+          at-place o true (gap p o) 1 (omega arith) (omega arith) (not-negative-zero true (gap p o) (omega arith))
           ∙ ap (λ (n : ℕ). On n) (omega arith)
       go false l k =
           let above : o ≤ p = k tt in
@@ -130,7 +130,7 @@ module _ (g : ℕ) (G : g ≤ 40) where
       let a = m * up e * 2 ^ g in
       let n = a / down e in
       let is = passed o s a (down e) p h in
-      let whole : a ≡ n * down e = sym (div-add-mod' a (down e)) ∙ ap (λ (r : ℕ). n * down e + r) (is .is-whole) ∙ add-zero (n * down e) in
+      let whole : a ≡ n * down e = divided a (down e) (is .is-whole) in
       let z = side s o n p (is .near) (still-plain s a n (λ z. whole ∙ ap (λ (k : ℕ). k * down e) z ∙ zero-mul (down e)) (is .plain)) (is .is) in
       let v : HasValue (coordinateOnGrid g p) s n (2 ^ g) =
       subst (λ (k : ℕ). HasValue (coordinateOnGrid g p) s k (2 ^ g)) (z .2)

@@ -4,7 +4,7 @@ use Prim.Native.Nat.{ℕ, _+_, _-_, _*_, _/_, _%_, _^_, _≤_, _<_}
 use native.Mathlib.Nat.{mul-comm, mul-right-comm, mul-div-mul-right, mul-mod-left, div-add-mod', eq-of-mul-eq-mul-right, zero-mul, add-zero}
 use native.Mathlib.Omega.{arith}
 use mathlib.Core.Bool.{Bool, true, false, not, _&&_, cond}
-use lib.Dec.{T, leb, eqb, eqb→eq, leb→le}
+use lib.Dec.{T, leb, eqb, eqb→eq, leb→le, not-T}
 use lib.Ieee.{Float, nan, inf, fin, up, down}
 use lib.Ieee.Exact.{HasValue}
 use lib.Ieee.Bits.{is-true}
@@ -19,6 +19,14 @@ same-test true false h k = absurd (h tt)
 same-test false true h k = absurd (k tt)
 same-test false false h k = refl
 
+-- an a that c divides, by its quotient
+pub divided : (a c : ℕ) → a % c ≡ 0 → a ≡ a / c * c
+divided a c w = sym (div-add-mod' a c) ∙ ap (λ (r : ℕ). a / c * c + r) w ∙ add-zero (a / c * c)
+
+-- two fractions of one size, both taken k times
+pub scaled : (a c b d k : ℕ) → a * d ≡ b * c → a * k * d ≡ b * k * c
+scaled a c b d k h = mul-right-comm a k d ∙ ap (λ (x : ℕ). x * k) h ∙ mul-right-comm b c k
+
 -- what holds of a whole number of steps holds of it however its fraction is written
 module _ (a c b d : ℕ) (C : 0 < c) (D : 0 < d) (h : a * d ≡ b * c) where
   pub same-quotient : a / c ≡ b / d
@@ -27,8 +35,7 @@ module _ (a c b d : ℕ) (C : 0 < c) (D : 0 < d) (h : a * d ≡ b * c) where
   whole : a % c ≡ 0 → b % d ≡ 0
   whole w =
       let n = a / c in
-      let is : a ≡ n * c = sym (div-add-mod' a c) ∙ ap (λ (x : ℕ). n * c + x) w ∙ add-zero (n * c) in
-      let b-is : n * d ≡ b = eq-of-mul-eq-mul-right c C (n * d) b (mul-right-comm n d c ∙ ap (λ (x : ℕ). x * d) (sym is) ∙ h) in
+      let b-is : n * d ≡ b = eq-of-mul-eq-mul-right c C (n * d) b (mul-right-comm n d c ∙ ap (λ (x : ℕ). x * d) (sym (divided a c w)) ∙ h) in
       ap (λ (x : ℕ). x % d) (sym b-is) ∙ mul-mod-left n d
 
   none : a ≡ 0 → b ≡ 0
@@ -50,13 +57,18 @@ place-of-value g (inf t) s a c C v = absurd v
 place-of-value g (fin t m e) s a c C v =
     ap (λ (t : Bool). placeOfSteps (originOfGrid g) t (m * up e * 2 ^ g) (down e)) (v .0)
     ∙ same-steps (originOfGrid g) s (m * up e * 2 ^ g) (down e) (a * 2 ^ g) c (down-pos e) C
-    (mul-right-comm (m * up e) (2 ^ g) c ∙ ap (λ (x : ℕ). x * 2 ^ g) (v .1) ∙ mul-right-comm a (down e) (2 ^ g))
+    (scaled (m * up e) (down e) a c (2 ^ g) (v .1))
 
 -- ---- what it takes to be at a place
 
 pub at-place : (o : ℕ) (s : Bool) (a c : ℕ) → a % c ≡ 0 → a / c ≤ o → T (not (s && eqb a 0)) → placeOfSteps o s a c ≡ On (cond s (o - a / c) (o + a / c))
 at-place o s a c w h plain = simp (eq-eqb (a % c) 0 w, le-leb (a / c) o h, is-true (not (s && eqb a 0)) plain)
 
+pub not-negative-zero : (s : Bool) (a : ℕ) → 0 < a → T (not (s && eqb a 0))
+not-negative-zero true a h = not-T (eqb a 0) (λ t. let z = eqb→eq a 0 t in omega arith)
+not-negative-zero false a h = tt
+
+-- what check 7 found of ±a / c steps that it put at p; `plain` is that they are not negative zero
 pub record Passed (o : ℕ) (s : Bool) (a c p : ℕ) : Type 0 where
   pub is-whole : a % c ≡ 0
   pub near : a / c ≤ o

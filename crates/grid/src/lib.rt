@@ -11,15 +11,25 @@ pub enum Place {
 // The place of 0: 4,096 in steps of 1/1,024.
 pub const ORIGIN: u32 = 4_194_304;
 
-// An f64's bits are its sign, eleven digits of exponent and the 52 digits below its leading one.
-// These are the weights of the sign and of the exponent.
+// An f64's bits are its sign, the field of its exponent, which has eleven digits, and the 52 digits
+// below its leading one. This is the weight of the sign.
 const SIGN: u64 = 0x8000_0000_0000_0000;
 
+// The weight of the field, and of the leading one.
 const LEADING: u64 = 0x10_0000_0000_0000;
 
-// Check 7, for every pattern. A float whose exponent has the field 1013 is at least one step and less
-// than two; at 1035 it is 4,096 or more. In between, its digits with the leading one are a whole
-// number of steps, which so many of them as the field says lie below: they must be 0.
+// The field of one step, 2^-10.
+const ONE_STEP: u64 = 1013;
+
+// The field of the largest coordinate, 2^12.
+const LARGEST: u64 = 1035;
+
+// The field at which all 52 digits below the leading one count whole steps.
+const ALL_WHOLE: u64 = 1065;
+
+// Check 7, for every pattern: the place, or Off. Below the field of one step nothing but 0 is a
+// whole number of steps, and above that of the largest coordinate all is too large. In between, the
+// digits with the leading one are shifted down to whole steps, and what is shifted out must be 0.
 pub fn read_place(bits: u64) -> Place
     ensures { λ r. ⌜ r ≡ readPlace bits ⌝ }
 {
@@ -27,19 +37,19 @@ pub fn read_place(bits: u64) -> Place
         return Place::On(ORIGIN);
     }
     let field = bits / LEADING % 2048;
-    if field < 1013 {
+    if field < ONE_STEP {
         return Place::Off;
     }
-    if field > 1035 {
+    if field > LARGEST {
         return Place::Off;
     }
     let digits = LEADING + bits % LEADING;
-    let below = 1065 - field;
+    let below = ALL_WHOLE - field;
     let steps = digits >> below;
     if steps << below != digits {
         return Place::Off;
     }
-    if steps > 4_194_304 {
+    if steps > ORIGIN as u64 {
         return Place::Off;
     }
     let count = steps as u32;

@@ -2,13 +2,13 @@
 use mathlib.Core.Path.{_≡_, refl, sym, ap, _∙_}
 use Prim.Native.Nat.{ℕ, _+_, _-_, _*_, _/_, _%_, _^_, _≤_, _<_}
 use native.Mathlib.Omega.{arith}
-use mathlib.Core.Bool.{Bool, cond}
+use mathlib.Core.Bool.{Bool, true, false, cond}
 use borrow.Author.Needs.{needs}
 use borrow.Author.Tests.{le-leb, lt-leb}
 use Rattle.grid.specs.declared.Place.the-variants.{On}
 use Rattle.grid.specs.Grid.{gridExponent, origin, placeOfSteps, readOnGrid, readPlace}
-use Rattle.grid.specs.Same.{at-place}
-use Rattle.grid.proofs.Fields.{negative, exponent, digits, part-of-step, too-far, read-below, read-above, read-between, shifts-back, shifts-off, not-negative-zero}
+use Rattle.grid.specs.Same.{not-negative-zero, at-place}
+use Rattle.grid.proofs.Fields.{negative, exponent, digits, part-of-step, too-far, read-below, read-above, read-between, shifts-back, shifts-off}
 use Rattle.grid.proofs.read_place.Statement.{statement}
 use Rattle.grid.proofs.read_place.Tie as tie
 
@@ -32,11 +32,12 @@ whole-fits b = omega arith
 between : (b : ℕ) → 1013 ≤ exponent b → exponent b ≤ 1035 → readPlace b ≡ placeOfSteps origin (negative b) (whole b) (2 ^ below b)
 between b h k = read-between gridExponent b (omega arith) (omega arith)
 
-on : (b : ℕ) → 1013 ≤ exponent b → exponent b ≤ 1035 → steps b * 2 ^ below b % 2 ^ 64 ≡ whole b → steps b ≤ origin
-    → readPlace b ≡ On (cond (negative b) (origin - steps b) (origin + steps b))
-on b h k w n =
+on : (b : ℕ) (s : Bool) → negative b ≡ s → 1013 ≤ exponent b → exponent b ≤ 1035 → steps b * 2 ^ below b % 2 ^ 64 ≡ whole b → steps b ≤ origin
+    → readPlace b ≡ On (cond s (origin - steps b) (origin + steps b))
+on b s e h k w n =
     between b h k
-    ∙ at-place origin (negative b) (whole b) (2 ^ below b) (shifts-back (whole b) (2 ^ below b) (whole-fits b) w) n (not-negative-zero (negative b) (whole b) (omega arith))
+    ∙ ap (λ (s : Bool). placeOfSteps origin s (whole b) (2 ^ below b)) e
+    ∙ at-place origin s (whole b) (2 ^ below b) (shifts-back (whole b) (2 ^ below b) (whole-fits b) w) n (not-negative-zero s (whole b) (omega arith))
 
 returns : tie.Need-returns
 returns c = sym (ap (readOnGrid gridExponent) (c .if1 .taken) ∙ zero)
@@ -64,6 +65,9 @@ returns-4 c =
     let b = c .before .before .before .before .args .bits in
     sym (between b (omega arith) (omega arith) ∙ part-of-step origin (negative b) (whole b) (2 ^ below b) (shifts-off (whole b) (2 ^ below b) (whole-fits b) (c .if4 .taken)))
 
+cast-if5 : tie.Need-cast-if5
+cast-if5 c = search needs
+
 returns-5 : tie.Need-returns-5
 returns-5 c =
     let b = c .before .before .before .before .before .args .bits in
@@ -81,12 +85,12 @@ sub-t11 c = search needs
 returns-6 : tie.Need-returns-6
 returns-6 c =
     let b = c .before .before .before .before .before .before .args .bits in
-    sym (on b (omega arith) (omega arith) (c .before .before .if4 .left) (omega arith) ∙ ap (λ (s : Bool). On (cond s (origin - steps b) (origin + steps b))) (lt-leb (2 ^ 63) b (omega arith)))
+    sym (on b false (lt-leb (2 ^ 63) b (omega arith)) (omega arith) (omega arith) (c .before .before .if4 .left) (omega arith))
 
 returns-7 : tie.Need-returns-7
 returns-7 c =
     let b = c .before .before .before .before .before .before .args .bits in
-    sym (on b (omega arith) (omega arith) (c .before .before .if4 .left) (omega arith) ∙ ap (λ (s : Bool). On (cond s (origin - steps b) (origin + steps b))) (le-leb (2 ^ 63) b (omega arith)))
+    sym (on b true (le-leb (2 ^ 63) b (omega arith)) (omega arith) (omega arith) (c .before .before .if4 .left) (omega arith))
 
 pub read-place-spec : {M : Type 1} → statement M
 read-place-spec =
@@ -100,6 +104,7 @@ read-place-spec =
     shr-steps
     shl-if4
     returns-4
+    cast-if5
     returns-5
     cast-count
     add-t10
