@@ -2,8 +2,8 @@
 -- exact one. Lengths are in the order of the whole numbers that they are roots of, so those may be compared in their place. No length is negative or infinite, and
 -- zero is the length only from a point to itself.
 use mathlib.Core.Path.{_≡_, sym, _∙_}
-use Prim.Native.Nat.{ℕ, _+_, _*_, _^_, _≤_, _<_, zero-le}
-use native.Mathlib.Nat.{le-trans, le-of-eq, lt-of-le-of-lt, lt-of-not-le, eq-zero-or-pos}
+use Prim.Native.Nat.{ℕ, _+_, _-_, _*_, _^_, _≤_, _<_, zero-le}
+use native.Mathlib.Nat.{le-trans, le-of-eq, lt-of-le-of-lt, lt-of-not-le, mul-le-mul, eq-zero-or-pos}
 use native.Mathlib.Decide.{decLe}
 use native.Mathlib.Omega.{arith}
 use mathlib.Core.Logic.{_⊎_, inl, inr}
@@ -14,13 +14,23 @@ use lib.Ieee.Scale.{finite}
 use borrow.Author.Tests.{lt-ltb, le-ltb}
 use Rattle.sums.specs.Key.{Nonneg, key, lt-key}
 use Rattle.sums.specs.Sum.{plusZero, zero-key}
-use Rattle.length.specs.Root.{rootOver, lengthAt}
+use Rattle.length.specs.Root.{square, apart, squaredOf, rootOver, lengthAt}
 use Rattle.length.specs.Nearest.{NearestRoot, nearest-mono}
 use Rattle.length.specs.Proved.{root-over-nearest, root-over-nonneg, root-over-finite, root-over-pos, root-over-least, root-over-zero}
 use Rattle.length.specs.Order.{root-over-order}
 
 pub short : (n : ℕ) → n < 2 ^ 64 → size n ≤ 2 * prec binary64
 short n h = le-trans (size-le n 64 h) (lit≤ tt)
+
+-- every squared length on a grid of up to 2 ^ 24 steps each way
+apart-le : (a b : ℕ) → a ≤ 2 ^ 24 → b ≤ 2 ^ 24 → apart a b ≤ 2 ^ 24
+apart-le a b A B = omega arith
+
+pub square-le : (a b : ℕ) → a ≤ 2 ^ 24 → b ≤ 2 ^ 24 → square (apart a b) ≤ 2 ^ 48
+square-le a b A B = mul-le-mul {n₂ = 2 ^ 24} {m₂ = 2 ^ 24} (apart-le a b A B) (apart-le a b A B)
+
+pub squared-lt : (ax ay bx by : ℕ) → ax ≤ 2 ^ 24 → ay ≤ 2 ^ 24 → bx ≤ 2 ^ 24 → by ≤ 2 ^ 24 → squaredOf ax ay bx by < 2 ^ 50
+squared-lt ax ay bx by A B C D = omega (arith, square-le ax bx A C, square-le ay by B D)
 
 module _ (e : ℕ) (small : e ≤ prec binary64) where
   pub length-nearest : (n : ℕ) → 0 < n → n < 2 ^ 64 → NearestRoot binary64 e n (lengthAt e n)
