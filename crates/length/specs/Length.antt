@@ -2,17 +2,18 @@
 -- exact one. Lengths are in the order of the whole numbers that they are roots of, so those may be compared in their place. No length is negative or infinite, and
 -- zero is the length only from a point to itself.
 use mathlib.Core.Path.{_≡_, sym, _∙_}
+use mathlib.Core.Bool.{not}
 use Prim.Native.Nat.{ℕ, _+_, _-_, _*_, _^_, _≤_, _<_, zero-le}
 use native.Mathlib.Nat.{le-trans, le-of-eq, lt-of-le-of-lt, lt-of-not-le, mul-le-mul, eq-zero-or-pos}
 use native.Mathlib.Decide.{decLe}
 use native.Mathlib.Omega.{arith}
 use mathlib.Core.Logic.{_⊎_, inl, inr}
 use lib.Dec.{T, ltb, lit≤}
-use lib.Ieee.{Float, Format, binary64, prec, size, lt}
+use lib.Ieee.{Float, Format, binary64, prec, size, lt, isNan}
 use lib.Ieee.Digits.{size-le}
 use lib.Ieee.Scale.{finite}
 use borrow.Author.Tests.{lt-ltb, le-ltb}
-use Rattle.sums.specs.Key.{Nonneg, key, lt-key}
+use Rattle.sums.specs.Key.{Nonneg, key, lt-key, nonneg-number}
 use Rattle.sums.specs.Sum.{plusZero, zero-key}
 use Rattle.length.specs.Root.{square, apart, squaredOf, rootOver, lengthAt}
 use Rattle.length.specs.Nearest.{NearestRoot, nearest-mono}
@@ -41,6 +42,9 @@ module _ (e : ℕ) (small : e ≤ prec binary64) where
 
   pub length-nonneg : (n : ℕ) → n < 2 ^ 64 → Nonneg binary64 (lengthAt e n)
   length-nonneg n h = root-over-nonneg binary64 e n (short n h) small
+
+  pub length-number : (n : ℕ) → n < 2 ^ 64 → T (not (isNan (lengthAt e n)))
+  length-number n h = nonneg-number binary64 (lengthAt e n) (length-nonneg n h)
 
   pub length-finite : (n : ℕ) → n < 2 ^ 64 → T (finite (lengthAt e n))
   length-finite n h = root-over-finite binary64 e n (short n h) small

@@ -10,7 +10,7 @@ use native.Mathlib.Omega.{arith}
 use lib.IntN.{ℤ, pos, negsuc}
 use lib.Dec.{T, ltb, eqb, leb, eqb→eq, ltb→lt, leb→le, lt→ltb, not-T, lit<}
 use lib.Pow.{pow-pos, pow-add, pow-lt}
-use lib.Ieee.{Float, nan, inf, fin, Format, prec, emax, low, up, down, size, fits, lt, toBits, ofBits}
+use lib.Ieee.{Float, nan, inf, fin, Format, prec, emax, low, up, down, size, fits, isNan, lt, toBits, ofBits}
 use lib.Ieee.Fits.{up-pos, down-pos, and-l, and-r, two}
 use lib.Ieee.Bits.{ofBits-toBits, is-true, is-false}
 use lib.Ieee.Exact.{HasValue}
@@ -25,6 +25,12 @@ nonneg (fin s m e) = not s
 pub record Nonneg (f : Format) (x : Float) : Type 0 where
   pub fit : T (fits f x)
   pub sign : T (nonneg x)
+
+pub nonneg-number : (f : Format) (x : Float) → Nonneg f x → T (not (isNan x))
+unfolding isNan
+nonneg-number f nan p = absurd (p .sign)
+nonneg-number f (inf s) p = tt
+nonneg-number f (fin s m e) p = tt
 
 -- how many times 2 ^ -low the value is in size, its sign left out
 abbrev pub key : Format → Float → ℕ
