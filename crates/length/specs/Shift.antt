@@ -1,6 +1,6 @@
 -- A u64 that is shifted up by an even number of places until it has 63 or 64 digits, and what that says of its root's places.
 use mathlib.Core.Path.{_≡_, sym, ap, _∙_}
-use Prim.Native.Nat.{ℕ, suc, _+_, _-_, _*_, _/_, _%_, _^_, _≤_, _<_}
+use Prim.Native.Nat.{ℕ, suc, _+_, _-_, _*_, _/_, _%_, _^_, _≤_, _<_, suc-le-suc}
 use native.Mathlib.Nat.{le-trans, le-of-eq, lt-of-lt-of-le, lt-of-not-le, not-le-of-lt, mul-le-mul-right, mul-assoc, mod-eq-of-lt, one-mul, le-antisymm}
 use native.Mathlib.Omega.{arith}
 use lib.Count.{leadingZeros, leading-top}
@@ -17,6 +17,9 @@ use Rattle.length.specs.Value.{whole-quotient, root-rounds}
 pub in-float : (a b : ℕ) → a ≡ b → b ≤ 2 ^ 53 → T (inFloat binary64 (pos a))
 unfolding inFloat
 in-float a b e h = le→leb a (2 ^ 53) (le-trans (le-of-eq e) h)
+
+pub power-in-float : (k : ℕ) → k ≤ 53 → T (inFloat binary64 (pos (1 * 2 ^ k % 2 ^ 64)))
+power-in-float k h = in-float (1 * 2 ^ k % 2 ^ 64) (2 ^ k) (rw (one-mul (2 ^ k)) (mod-eq-of-lt (pow-lt {j = 64} (le-trans (suc-le-suc h) (lit≤ tt))))) (pow-mono h)
 
 module _ (n : ℕ) (positive : 0 < n) (word : n < 2 ^ 64) where
   -- half the zeros above n's highest digit
@@ -56,8 +59,5 @@ module _ (n : ℕ) (positive : 0 < n) (word : n < 2 ^ 64) where
   pub digits-fit : significand binary64 n ≤ 2 ^ 53
   digits-fit = significand-le binary64 n (le-trans (size-le n 64 word) (lit≤ tt))
 
-  pub power-fits : 2 ^ places binary64 n ≤ 2 ^ 53
-  power-fits = rw places-half (pow-mono {j = 53} (omega (arith, half-le)))
-
   pub quotient-is-root : div binary64 (ofInt binary64 (pos (significand binary64 n))) (ofInt binary64 (pos (2 ^ places binary64 n))) ≡ root binary64 n
-  quotient-is-root = whole-quotient binary64 (significand binary64 n) (2 ^ places binary64 n) digits-fit power-fits (pow-pos (places binary64 n)) ∙ sym (root-rounds binary64 n)
+  quotient-is-root = whole-quotient binary64 (significand binary64 n) (2 ^ places binary64 n) digits-fit (pow-mono {j = 53} (omega (arith, places-half, half-le))) (pow-pos (places binary64 n)) ∙ sym (root-rounds binary64 n)

@@ -97,6 +97,9 @@ pub extended : {n root rest r t : ℕ} (m high low b : ℕ) → Rooted n root re
     → Rooted m r t
 extended m high low b p q e = record { whole = q .whole ∙ ap (λ (x : ℕ). x * (b * b) + high * b + low) (p .whole) ∙ e; small = q .small }
 
+pub rooted-lt : (n root rest b : ℕ) → Rooted n root rest → n < square b → root < b
+rooted-lt n root rest b p h = root-lt n root b (omega (arith, p .whole)) h
+
 -- ---- from a whole root to the nearest number
 near-of : (d n root rest : ℕ) → n < 4 ^ d → Rooted n root rest → nearRoot d n ≡ cond (ltb root rest) (root + 1) root
 unfolding nearRoot

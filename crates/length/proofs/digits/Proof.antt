@@ -3,7 +3,7 @@ use native.Mathlib.Omega.{arith}
 use Prim.Native.Nat.{ℕ, _*_, _^_}
 use borrow.Author.Needs.{needs}
 use lib.Dec.{lit<, lit≤}
-use Rattle.length.specs.Steps.{Rooted, extends, extended, near-up, near-down}
+use Rattle.length.specs.Steps.{Rooted, rooted-lt, extends, extended, near-up, near-down}
 use Rattle.length.proofs.digits.Statement.{statement}
 use Rattle.length.proofs.digits.Tie as tie
 
@@ -17,7 +17,7 @@ extend-requires : tie.Need-extend-requires
 extend-requires c κs = extends (2 ^ 31) _ _ _ 0 0 (2 ^ 21) (c .before .pre) (c .before .fits .m .fits) (lit≤ tt) (lit≤ tt) (lit≤ tt) (lit< tt) (lit< tt) (c .whole-root .ensures)
 
 add-result : tie.Need-add-result
-add-result c = search needs
+add-result c = omega (arith, rooted-lt _ _ _ (2 ^ 53) (long (c .before .before .before)) (omega (arith, c .before .before .before .before .before .fits .m .fits)))
 
 returns : tie.Need-returns
 returns c = near-up 53 _ _ _ (omega (arith, c .before .before .before .before .before .fits .m .fits)) (long (c .before .before .before)) (c .before .if1 .taken)

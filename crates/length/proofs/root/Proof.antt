@@ -5,7 +5,7 @@ use native.Mathlib.Omega.{arith}
 use lib.IntN.{pos}
 use lib.Ieee.{binary64, ofBits, ofInt, div}
 use Rattle.length.specs.Root.{root, significand}
-use Rattle.length.specs.Shift.{in-float, half-le, shifted, shifted-ge, significand-is-digits, power-is-places, digits-fit, power-fits, quotient-is-root}
+use Rattle.length.specs.Shift.{in-float, power-in-float, half-le, shifted, shifted-ge, significand-is-digits, power-is-places, digits-fit, quotient-is-root}
 use Rattle.length.proofs.root.Statement.{statement}
 use Rattle.length.proofs.root.Tie as tie
 
@@ -47,10 +47,7 @@ shl-result : tie.Need-shl-result
 shl-result c = omega (arith, half-le _ (positive (c .before .before)) (c .before .before .before .fits .n .fits))
 
 int-to-float-result-2 : tie.Need-int-to-float-result-2
-int-to-float-result-2 c =
-    let p = positive (c .before .before .before) in
-    let w = c .before .before .before .before .fits .n .fits in
-    in-float _ _ (power-is-places _ p w) (power-fits _ p w)
+int-to-float-result-2 c = power-in-float _ (omega (arith, half-le _ (positive (c .before .before .before)) (c .before .before .before .before .fits .n .fits)))
 
 returns-2 : tie.Need-returns-2
 returns-2 c =

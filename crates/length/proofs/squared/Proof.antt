@@ -9,10 +9,10 @@ use Rattle.length.proofs.squared.Statement.{statement}
 use Rattle.length.proofs.squared.Tie as tie
 
 x-small : (c : tie.After-gap) → c .gap .result * c .gap .result ≤ 2 ^ 48
-x-small c = rw (c .gap .ensures) (square-le _ _ (c .before .pre .0) (c .before .pre .2))
+x-small c = rw (c .gap .ensures) (square-le _ _ (omega arith) (omega arith))
 
 y-small : (c : tie.After-gap2) → c .gap2 .result * c .gap2 .result ≤ 2 ^ 48
-y-small c = rw (c .gap2 .ensures) (square-le _ _ (c .before .before .pre .1) (c .before .before .pre .3))
+y-small c = rw (c .gap2 .ensures) (square-le _ _ (omega arith) (omega arith))
 
 gap-requires : tie.Need-gap-requires
 gap-requires c κs = search needs
@@ -21,10 +21,10 @@ gap-requires-2 : tie.Need-gap-requires-2
 gap-requires-2 c κs = search needs
 
 mul-result : tie.Need-mul-result
-mul-result c = omega (arith, x-small (c .before))
+mul-result c = omega (arith, x-small (c .before), y-small c)
 
 mul-result-2 : tie.Need-mul-result-2
-mul-result-2 c = omega (arith, y-small c)
+mul-result-2 c = omega (arith, x-small (c .before), y-small c)
 
 add-result : tie.Need-add-result
 add-result c = omega (arith, x-small (c .before), y-small c)
