@@ -3,19 +3,19 @@
 -- zero is the length only from a point to itself.
 use mathlib.Core.Path.{_≡_, sym, _∙_}
 use mathlib.Core.Bool.{not}
-use Prim.Native.Nat.{ℕ, _+_, _-_, _*_, _^_, _≤_, _<_, zero-le}
+use Prim.Native.Nat.{ℕ, _*_, _^_, _≤_, _<_, zero-le}
 use native.Mathlib.Nat.{le-trans, le-of-eq, lt-of-le-of-lt, lt-of-not-le, mul-le-mul, eq-zero-or-pos}
 use native.Mathlib.Decide.{decLe}
 use native.Mathlib.Omega.{arith}
-use mathlib.Core.Logic.{_⊎_, inl, inr}
+use mathlib.Core.Logic.{inl, inr}
 use lib.Dec.{T, ltb, lit≤}
-use lib.Ieee.{Float, Format, binary64, prec, size, lt, isNan}
+use lib.Ieee.{binary64, prec, size, lt, isNan}
 use lib.Ieee.Digits.{size-le}
 use lib.Ieee.Scale.{finite}
 use borrow.Author.Tests.{lt-ltb, le-ltb}
 use Rattle.sums.specs.Key.{Nonneg, key, lt-key, nonneg-number}
 use Rattle.sums.specs.Sum.{plusZero, zero-key}
-use Rattle.length.specs.Root.{square, apart, squaredOf, rootOver, lengthAt}
+use Rattle.length.specs.Root.{square, apart, squaredOf, lengthAt}
 use Rattle.length.specs.Nearest.{NearestRoot, nearest-mono}
 use Rattle.length.specs.Proved.{root-over-nearest, root-over-nonneg, root-over-finite, root-over-pos, root-over-least, root-over-zero}
 use Rattle.length.specs.Order.{root-over-order}

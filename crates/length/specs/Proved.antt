@@ -1,11 +1,10 @@
 -- The definitions meet the statement: `root f n` is the value of the format f that is nearest to √n, and its quotient by 2 ^ e the one that is nearest to √n / 2 ^ e.
-use mathlib.Core.Path.{_≡_, refl, sym, ap, _∙_}
+use mathlib.Core.Path.{_≡_, sym, ap, _∙_}
 use mathlib.Core.Logic.{⊎-elim}
-use Prim.Native.Nat.{ℕ, zero, suc, _+_, _-_, _*_, _^_, _≤_, _<_, zero-le}
-use native.Mathlib.Nat.{le-trans, le-of-eq, le-of-lt, lt-of-lt-of-le, lt-of-le-of-lt, le-of-suc-le-suc, lt-of-not-le, not-le-of-lt, mul-le-mul, mul-le-mul-right, mul-lt-mul-of-pos-right, mul-pos, zero-mul}
-use native.Mathlib.Decide.{decLe}
+use Prim.Native.Nat.{ℕ, _+_, _-_, _*_, _^_, _≤_, _<_, zero-le}
+use native.Mathlib.Nat.{le-trans, le-of-eq, lt-of-lt-of-le, lt-of-le-of-lt, le-of-suc-le-suc, lt-of-not-le, not-le-of-lt, mul-le-mul, mul-le-mul-right, mul-lt-mul-of-pos-right, mul-pos, zero-mul}
 use native.Mathlib.Omega.{arith}
-use lib.Pow.{pow-pos, pow-add}
+use lib.Pow.{pow-pos}
 use lib.Dec.{T, lit<}
 use lib.Ieee.{Float, Format, prec, low, size}
 use lib.Ieee.Fits.{two, two-le-pos}
@@ -14,7 +13,7 @@ use lib.Ieee.Scale.{finite}
 use Rattle.sums.specs.Key.{Nonneg, key, key-digits, key-inj, value-finite}
 use Rattle.sums.specs.Sum.{round-nonneg, plusZero, zero-nonneg, zero-key}
 use Rattle.length.specs.Root.{square, wholeRoot, places, significand, root, rootOver}
-use Rattle.length.specs.Nearest.{NearestRoot, Negative, exactSquared, middleSquared, nearest-mono}
+use Rattle.length.specs.Nearest.{NearestRoot, exactSquared, middleSquared, nearest-mono}
 use Rattle.length.specs.Whole.{IsNearRoot}
 use Rattle.length.specs.Digits.{four-pos, significand-near, significand-ge, significand-zero, whole-ge, next-step}
 use Rattle.length.specs.Value.{scaled, step, scaled-value, scaled-key, in-steps, step-pos, steps-pos, root-is, root-over-is}

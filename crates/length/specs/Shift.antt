@@ -1,13 +1,13 @@
 -- A u64 that is shifted up by an even number of places until it has 63 or 64 digits, and what that says of its root's places.
 use mathlib.Core.Path.{_≡_, sym, ap, _∙_}
-use Prim.Native.Nat.{ℕ, suc, _+_, _-_, _*_, _/_, _%_, _^_, _≤_, _<_, suc-le-suc}
-use native.Mathlib.Nat.{le-trans, le-of-eq, lt-of-lt-of-le, lt-of-not-le, not-le-of-lt, mul-le-mul-right, mul-assoc, mod-eq-of-lt, one-mul, le-antisymm}
+use Prim.Native.Nat.{ℕ, suc, _+_, _*_, _/_, _%_, _^_, _≤_, _<_, suc-le-suc}
+use native.Mathlib.Nat.{le-trans, le-of-eq, lt-of-lt-of-le, lt-of-not-le, not-le-of-lt, mul-le-mul-right, mod-eq-of-lt, one-mul, le-antisymm}
 use native.Mathlib.Omega.{arith}
 use lib.Count.{leadingZeros, leading-top}
 use lib.Dec.{T, le→leb, lit≤}
 use lib.IntN.{pos}
 use lib.Pow.{pow-pos, pow-add, pow-mono, pow-lt, shl-lt}
-use lib.Ieee.{Format, binary64, prec, size, ofInt, inFloat, div}
+use lib.Ieee.{binary64, size, ofInt, inFloat, div}
 use lib.Ieee.Digits.{size-lt, size-le}
 use Rattle.length.specs.Root.{places, significand, nearRoot, root}
 use Rattle.length.specs.Digits.{four, places-is, significand-is, significand-le}

@@ -1,19 +1,19 @@
 -- The root and its quotient by 2 ^ e are exact: each is the significand over a power of two, with nothing rounded on the way.
 use mathlib.Core.Path.{_≡_, refl, sym, ap, _∙_}
-use mathlib.Core.Bool.{Bool, true, false, true≢false}
-use mathlib.Core.Logic.{_⊎_, inl, inr}
-use Prim.Native.Nat.{ℕ, zero, suc, _+_, _-_, _*_, _/_, _^_, _≤_, _<_, zero-le}
-use native.Mathlib.Nat.{le-trans, le-of-eq, lt-of-lt-of-le, lt-irrefl, eq-or-lt-of-le, mul-pos, mul-assoc, mul-one, add-zero, one-mul, zero-mul, zero-lt-suc, mul-lt-mul-of-pos-right, eq-of-mul-eq-mul-right}
+use mathlib.Core.Bool.{true, false, true≢false}
+use mathlib.Core.Logic.{inl, inr}
+use Prim.Native.Nat.{ℕ, zero, suc, _+_, _-_, _*_, _^_, _≤_, _<_, zero-le}
+use native.Mathlib.Nat.{lt-of-lt-of-le, eq-or-lt-of-le, mul-pos, mul-assoc, mul-one, add-zero, one-mul, zero-lt-suc, eq-of-mul-eq-mul-right}
 use native.Mathlib.Omega.{arith}
-use lib.IntN.{ℤ, pos}
-use lib.Dec.{T, lit<, lit≤, eqb·suc-zero}
+use lib.IntN.{pos}
+use lib.Dec.{lit<, lit≤, eqb·suc-zero}
 use lib.Pow.{pow-pos, pow-add, pow-mono, pow-lt, shl-lt}
 use lib.Ieee.{Float, nan, inf, fin, Format, binary32, binary64, prec, emax, low, up, down, size, round, ofInt, div}
 use lib.Ieee.Fits.{two, two-le-pos, up-pos, down-pos, round-fits}
 use lib.Ieee.Back.{round-whole}
 use lib.Ieee.Exact.{HasValue, round-exact}
-use lib.Ieee.Scale.{round-same, overflow}
-use Rattle.sums.specs.Key.{Nonneg, key, key-value}
+use lib.Ieee.Scale.{round-same}
+use Rattle.sums.specs.Key.{key, key-value}
 use Rattle.length.specs.Root.{square, places, significand, root, rootOver}
 use Rattle.length.specs.Nearest.{exactSquared}
 use Rattle.length.specs.Digits.{four, four-pos, places-is, significand-le}

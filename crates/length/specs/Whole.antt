@@ -3,8 +3,7 @@ use mathlib.Core.Path.{_≡_, refl}
 use mathlib.Core.Bool.{Bool, true, false, not, cond}
 use mathlib.Core.Logic.{_⊎_, inl, inr, ⊎-elim}
 use Prim.Native.Nat.{ℕ, zero, suc, _+_, _-_, _*_, _/_, _^_, _≤_, _<_, zero-le}
-use native.Mathlib.Nat.{le-antisymm, le-trans, lt-of-not-le, not-le-of-lt, mul-le-mul, pow-suc}
-use native.Mathlib.Decide.{decLe}
+use native.Mathlib.Nat.{le-trans, lt-of-not-le, not-le-of-lt, mul-le-mul, pow-suc}
 use native.Mathlib.Omega.{arith}
 use lib.Dec.{T, leb, ltb, leb→le, nleb→lt, ltb→lt, nltb→le}
 use Rattle.length.specs.Root.{square, wholeRoot, nearRoot}

@@ -1,6 +1,6 @@
 -- `length::digits` meets its contract: the root of m * 4 ^ 21 is m's, with 21 digits more, and is rounded by its rest.
 use native.Mathlib.Omega.{arith}
-use Prim.Native.Nat.{ℕ, _*_, _^_}
+use Prim.Native.Nat.{_*_, _^_}
 use borrow.Author.Needs.{needs}
 use lib.Dec.{lit<, lit≤}
 use Rattle.length.specs.Steps.{Rooted, rooted-lt, extends, extended, near-up, near-down}

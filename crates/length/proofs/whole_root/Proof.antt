@@ -1,6 +1,6 @@
 -- `length::whole_root` meets its contract: each step's number is the top of m, with twice as many digits in its root as the one before.
 use native.Mathlib.Omega.{arith}
-use Prim.Native.Nat.{_/_, _%_, _^_}
+use Prim.Native.Nat.{_/_, _^_}
 use lib.Dec.{lit≤}
 use Rattle.length.specs.Steps.{Rooted, extends, extended}
 use Rattle.length.proofs.whole_root.Statement.{statement}

@@ -1,7 +1,5 @@
 -- `length_vectors::bits` meets its contract: no length is a NaN, so it has bits.
-use mathlib.Core.Bool.{not}
-use lib.Dec.{T, lit≤}
-use lib.Ieee.{isNan}
+use lib.Dec.{lit≤}
 use borrow.Author.Needs.{needs}
 use Rattle.length.specs.Step.{gridExponent}
 use Rattle.length.specs.Length.{length-number}
