@@ -13,8 +13,8 @@ use Rattle.length.specs.Whole.{near-low}
 use Rattle.length.specs.Digits.{four, places-is, significand-near, significand-le}
 use Rattle.length.specs.Value.{scaled, step, scaled-key, one-in-steps, in-steps, steps-pos, root-over-is}
 
--- Two numbers n < m whose rounded roots are a steps of g and b steps of h units, g no larger than h, and are not in order. E is 4 ^ e. P and Q are √n and √m doubled and
--- squared in units, and D is as many for 1. Then D is below some 8 * a squared steps.
+-- Two numbers n < m whose rounded roots are a steps of g units and b steps of h units, g no larger than h, and are not in order. E is 4 ^ e, and P, Q and D are the roots
+-- of n, m and 1 in units, doubled and squared. Then D is small: about 8 * a squared steps, where it should be 4 * 4 ^ places.
 too-near : (a g b h E P Q D : ℕ) → b * h ≤ a * g → g ≤ h → P + D ≤ Q → 4 * square a * (square g * E) ≤ P + 4 * a * (square g * E) → Q < square (2 * b + 1) * (square h * E)
     → D < (8 * a + 1) * (square h * E)
 too-near a g b h E P Q D order finer apart lower upper =
