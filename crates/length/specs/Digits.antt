@@ -1,16 +1,16 @@
 -- How long the root's significand is: as many digits as the format keeps, so the next value of the format on either side is one step of the last digit away.
 use mathlib.Core.Path.{_≡_, refl, sym, ap, _∙_}
-use mathlib.Core.Logic.{_⊎_, inl, inr, ⊎-elim}
-use Prim.Native.Nat.{ℕ, zero, suc, _+_, _-_, _*_, _/_, _^_, _≤_, _<_, zero-le}
-use native.Mathlib.Nat.{le-trans, le-of-eq, le-of-lt, lt-of-lt-of-le, lt-of-le-of-lt, lt-of-not-le, not-le-of-lt, mul-le-mul, mul-le-mul-right, mul-lt-mul-of-pos-right, lt-of-mul-lt-mul-right, mul-assoc, zero-mul, pow-suc}
+use mathlib.Core.Logic.{⊎-elim}
+use Prim.Native.Nat.{ℕ, zero, suc, _+_, _-_, _*_, _/_, _^_, _≤_, _<_}
+use native.Mathlib.Nat.{le-trans, le-of-eq, le-of-lt, lt-of-lt-of-le, lt-of-not-le, not-le-of-lt, mul-le-mul-right, mul-lt-mul-of-pos-right, lt-of-mul-lt-mul-right, mul-assoc, zero-mul, pow-suc}
 use native.Mathlib.Decide.{decLe}
 use native.Mathlib.Omega.{arith}
 use lib.Dec.{lit<}
 use lib.Pow.{pow-pos, pow-add, pow-mono}
 use lib.Ieee.{Format, prec, size}
-use lib.Ieee.Digits.{size-lt, size-reaches, size-le}
+use lib.Ieee.Digits.{size-lt, size-reaches}
 use Rattle.length.specs.Root.{square, wholeRoot, nearRoot, places, significand}
-use Rattle.length.specs.Whole.{IsWholeRoot, IsNearRoot, whole-root, near-root, root-lt}
+use Rattle.length.specs.Whole.{IsNearRoot, whole-root, near-root, root-lt}
 
 pub four : (k : ℕ) → 4 ^ k ≡ square (2 ^ k)
 four zero = refl

@@ -1,26 +1,38 @@
 -- What the planner uses of lengths, for every u64 that is a number of squared grid steps, on a grid of 2 ^ e steps to a unit. A length is the f64 that is nearest to the
 -- exact one. Lengths are in the order of the whole numbers that they are roots of, so those may be compared in their place. No length is negative or infinite, and
 -- zero is the length only from a point to itself.
-use mathlib.Core.Path.{_≡_, sym, _∙_}
-use Prim.Native.Nat.{ℕ, _+_, _*_, _^_, _≤_, _<_, zero-le}
-use native.Mathlib.Nat.{le-trans, le-of-eq, lt-of-le-of-lt, lt-of-not-le, eq-zero-or-pos}
+use mathlib.Core.Path.{_≡_, refl, sym, _∙_}
+use mathlib.Core.Bool.{false, not}
+use Prim.Native.Nat.{ℕ, _*_, _^_, _≤_, _<_, zero-le}
+use native.Mathlib.Nat.{le-trans, le-of-eq, lt-of-le-of-lt, lt-of-not-le, mul-le-mul, eq-zero-or-pos}
 use native.Mathlib.Decide.{decLe}
 use native.Mathlib.Omega.{arith}
-use mathlib.Core.Logic.{_⊎_, inl, inr}
+use mathlib.Core.Logic.{inl, inr}
 use lib.Dec.{T, ltb, lit≤}
-use lib.Ieee.{Float, Format, binary64, prec, size, lt}
+use lib.IntN.{pos, negsuc}
+use lib.Ieee.{fin, ofBits, binary64, prec, size, lt, isNan}
 use lib.Ieee.Digits.{size-le}
 use lib.Ieee.Scale.{finite}
 use borrow.Author.Tests.{lt-ltb, le-ltb}
-use Rattle.sums.specs.Key.{Nonneg, key, lt-key}
+use Rattle.sums.specs.Key.{Nonneg, key, lt-key, nonneg-number}
 use Rattle.sums.specs.Sum.{plusZero, zero-key}
-use Rattle.length.specs.Root.{rootOver, lengthAt}
+use Rattle.length.specs.Root.{square, apart, squaredOf, rootOver, lengthAt, lengthOf}
 use Rattle.length.specs.Nearest.{NearestRoot, nearest-mono}
 use Rattle.length.specs.Proved.{root-over-nearest, root-over-nonneg, root-over-finite, root-over-pos, root-over-least, root-over-zero}
 use Rattle.length.specs.Order.{root-over-order}
 
 pub short : (n : ℕ) → n < 2 ^ 64 → size n ≤ 2 * prec binary64
 short n h = le-trans (size-le n 64 h) (lit≤ tt)
+
+-- every squared length on a grid of up to 2 ^ 24 steps each way
+apart-le : (a b : ℕ) → a ≤ 2 ^ 24 → b ≤ 2 ^ 24 → apart a b ≤ 2 ^ 24
+apart-le a b A B = omega arith
+
+pub square-le : (a b : ℕ) → a ≤ 2 ^ 24 → b ≤ 2 ^ 24 → square (apart a b) ≤ 2 ^ 48
+square-le a b A B = mul-le-mul {n₂ = 2 ^ 24} {m₂ = 2 ^ 24} (apart-le a b A B) (apart-le a b A B)
+
+pub squared-lt : (ax ay bx by : ℕ) → ax ≤ 2 ^ 24 → ay ≤ 2 ^ 24 → bx ≤ 2 ^ 24 → by ≤ 2 ^ 24 → squaredOf ax ay bx by < 2 ^ 50
+squared-lt ax ay bx by A B C D = omega (arith, square-le ax bx A C, square-le ay by B D)
 
 module _ (e : ℕ) (small : e ≤ prec binary64) where
   pub length-nearest : (n : ℕ) → 0 < n → n < 2 ^ 64 → NearestRoot binary64 e n (lengthAt e n)
@@ -31,6 +43,9 @@ module _ (e : ℕ) (small : e ≤ prec binary64) where
 
   pub length-nonneg : (n : ℕ) → n < 2 ^ 64 → Nonneg binary64 (lengthAt e n)
   length-nonneg n h = root-over-nonneg binary64 e n (short n h) small
+
+  pub length-number : (n : ℕ) → n < 2 ^ 64 → T (not (isNan (lengthAt e n)))
+  length-number n h = nonneg-number binary64 (lengthAt e n) (length-nonneg n h)
 
   pub length-finite : (n : ℕ) → n < 2 ^ 64 → T (finite (lengthAt e n))
   length-finite n h = root-over-finite binary64 e n (short n h) small
@@ -63,3 +78,8 @@ module _ (e : ℕ) (small : e ≤ prec binary64) where
         | yes g ↦ le-ltb (key binary64 x) (key binary64 y) (length-mono m n g (le-trans N wide)) ∙ sym (le-ltb n m g)
         | no g ↦ lt-ltb (key binary64 x) (key binary64 y) (length-strict n m (lt-of-not-le g) M) ∙ sym (lt-ltb n m (lt-of-not-le g))
       ]
+
+-- no steps, one step, three steps and one, and document 01's line from (0, 0) to (3, 4)
+pub samples : (lengthOf 0 ≡ plusZero) × (lengthOf 1 ≡ fin false 1 (negsuc 9)) × (lengthOf 10 ≡ ofBits binary64 0x3f69_4c58_3ada_5b53) × (lengthOf (squaredOf 0 0 3072 4096) ≡ fin false 5 (pos 0))
+unfolding rootOver ofBits
+samples = (refl, refl, refl, refl)

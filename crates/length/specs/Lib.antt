@@ -8,3 +8,5 @@ pub mod Value
 pub mod Proved
 pub mod Order
 pub mod Length
+pub mod Steps
+pub mod Shift

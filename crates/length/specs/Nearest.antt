@@ -1,10 +1,9 @@
 -- What 'the value of the format that is nearest to the exact root' means, with no root in it: all sides are squared whole numbers of the format's smallest units.
 -- The value x is nearest to √n / 2 ^ e where, for every other value y, the middle of x and y lies on y's side of √n / 2 ^ e. With keys for values that is
 -- (X + Y) / 2 units against √n * 2 ^ low / 2 ^ e units; both sides are doubled, multiplied by 2 ^ e and squared. Each order is strict, so no tie occurs.
-use mathlib.Core.Path.{_≡_, sym, ap, _∙_}
+use mathlib.Core.Path.{_≡_}
 use mathlib.Core.Bool.{Bool, false}
-use mathlib.Core.Logic.{_⊎_, inl, inr}
-use Prim.Native.Nat.{ℕ, suc, _+_, _-_, _*_, _^_, _≤_, _<_}
+use Prim.Native.Nat.{ℕ, _+_, _-_, _*_, _^_, _≤_, _<_}
 use native.Mathlib.Nat.{le-refl, le-antisymm, lt-of-not-le, mul-le-mul-right}
 use native.Mathlib.Decide.{decLe}
 use native.Mathlib.Omega.{arith}

@@ -1,20 +1,20 @@
 -- Different numbers of few digits have different nearest roots, in the same order: their roots lie further apart than the format's values do there.
-use mathlib.Core.Path.{_≡_, sym, ap, _∙_}
-use Prim.Native.Nat.{ℕ, suc, _+_, _-_, _*_, _^_, _≤_, _<_}
-use native.Mathlib.Nat.{le-trans, le-of-eq, le-of-lt, lt-of-lt-of-le, lt-of-le-of-lt, lt-of-not-le, not-le-of-lt, mul-le-mul, mul-le-mul-right, mul-le-mul-left, mul-lt-mul-of-pos-right, lt-of-mul-lt-mul-right, mul-pos}
+use mathlib.Core.Path.{sym}
+use Prim.Native.Nat.{ℕ, _+_, _*_, _^_, _≤_, _<_}
+use native.Mathlib.Nat.{le-trans, le-of-eq, le-of-lt, lt-of-lt-of-le, lt-of-not-le, mul-le-mul, mul-le-mul-right, mul-lt-mul-of-pos-right, lt-of-mul-lt-mul-right}
 use native.Mathlib.Omega.{arith}
-use lib.Pow.{pow-pos, pow-add, pow-mono, pow-lt}
-use lib.Ieee.{Float, Format, prec, low, size}
+use lib.Pow.{pow-pos, pow-add, pow-mono}
+use lib.Ieee.{Format, prec, low, size}
 use lib.Ieee.Digits.{size-lt, size-le}
 use Rattle.sums.specs.Key.{key}
 use Rattle.length.specs.Root.{square, wholeRoot, places, significand, rootOver}
 use Rattle.length.specs.Nearest.{exactSquared}
 use Rattle.length.specs.Whole.{near-low}
-use Rattle.length.specs.Digits.{four, four-pos, places-is, significand-near, significand-le}
-use Rattle.length.specs.Value.{scaled, step, scaled-key, one-in-steps, in-steps, step-pos, steps-pos, root-over-is}
+use Rattle.length.specs.Digits.{four, places-is, significand-near, significand-le}
+use Rattle.length.specs.Value.{scaled, step, scaled-key, one-in-steps, in-steps, steps-pos, root-over-is}
 
--- Two numbers n < m whose rounded roots are a steps of g and b steps of h units, g no larger than h, and are not in order. E is 4 ^ e. P and Q are √n and √m doubled and
--- squared in units, and D is as many for 1. Then D is below some 8 * a squared steps.
+-- Two numbers n < m whose rounded roots are a steps of g units and b steps of h units, g no larger than h, and are not in order. E is 4 ^ e, and P, Q and D are the roots
+-- of n, m and 1 in units, doubled and squared. Then D is small: about 8 * a squared steps, where it should be 4 * 4 ^ places.
 too-near : (a g b h E P Q D : ℕ) → b * h ≤ a * g → g ≤ h → P + D ≤ Q → 4 * square a * (square g * E) ≤ P + 4 * a * (square g * E) → Q < square (2 * b + 1) * (square h * E)
     → D < (8 * a + 1) * (square h * E)
 too-near a g b h E P Q D order finer apart lower upper =

@@ -1,11 +1,10 @@
 -- The definitions meet the statement: `root f n` is the value of the format f that is nearest to √n, and its quotient by 2 ^ e the one that is nearest to √n / 2 ^ e.
-use mathlib.Core.Path.{_≡_, refl, sym, ap, _∙_}
+use mathlib.Core.Path.{_≡_, sym, ap, _∙_}
 use mathlib.Core.Logic.{⊎-elim}
-use Prim.Native.Nat.{ℕ, zero, suc, _+_, _-_, _*_, _^_, _≤_, _<_, zero-le}
-use native.Mathlib.Nat.{le-trans, le-of-eq, le-of-lt, lt-of-lt-of-le, lt-of-le-of-lt, le-of-suc-le-suc, lt-of-not-le, not-le-of-lt, mul-le-mul, mul-le-mul-right, mul-lt-mul-of-pos-right, mul-pos, zero-mul}
-use native.Mathlib.Decide.{decLe}
+use Prim.Native.Nat.{ℕ, _+_, _-_, _*_, _^_, _≤_, _<_, zero-le}
+use native.Mathlib.Nat.{le-trans, le-of-eq, lt-of-lt-of-le, lt-of-le-of-lt, le-of-suc-le-suc, lt-of-not-le, not-le-of-lt, mul-le-mul, mul-le-mul-right, mul-lt-mul-of-pos-right, mul-pos, zero-mul}
 use native.Mathlib.Omega.{arith}
-use lib.Pow.{pow-pos, pow-add}
+use lib.Pow.{pow-pos}
 use lib.Dec.{T, lit<}
 use lib.Ieee.{Float, Format, prec, low, size}
 use lib.Ieee.Fits.{two, two-le-pos}
@@ -14,7 +13,7 @@ use lib.Ieee.Scale.{finite}
 use Rattle.sums.specs.Key.{Nonneg, key, key-digits, key-inj, value-finite}
 use Rattle.sums.specs.Sum.{round-nonneg, plusZero, zero-nonneg, zero-key}
 use Rattle.length.specs.Root.{square, wholeRoot, places, significand, root, rootOver}
-use Rattle.length.specs.Nearest.{NearestRoot, Negative, exactSquared, middleSquared, nearest-mono}
+use Rattle.length.specs.Nearest.{NearestRoot, exactSquared, middleSquared, nearest-mono}
 use Rattle.length.specs.Whole.{IsNearRoot}
 use Rattle.length.specs.Digits.{four-pos, significand-near, significand-ge, significand-zero, whole-ge, next-step}
 use Rattle.length.specs.Value.{scaled, step, scaled-value, scaled-key, in-steps, step-pos, steps-pos, root-is, root-over-is}
@@ -26,6 +25,7 @@ square-lt : {a b : ℕ} → a < b → square a < square b
 square-lt {a} {b} h = omega (arith, square-le h)
 
 module _ (f : Format) (n : ℕ) (short : size n ≤ 2 * prec f) (positive : 0 < n) (e : ℕ) (small : e ≤ prec f) where
+  -- the significand a is r, the whole root, or one more; its last digit is worth g units
   abbrev a : ℕ
   a = significand f n
 
@@ -35,9 +35,11 @@ module _ (f : Format) (n : ℕ) (short : size n ≤ 2 * prec f) (positive : 0 < 
   abbrev g : ℕ
   g = step f e n
 
-  step-squares : (v : ℕ) → square v * (square (g) * 4 ^ e) ≡ middleSquared e (v * g)
+  -- v steps, doubled and squared as `NearestRoot` compares them
+  step-squares : (v : ℕ) → square v * (square g * 4 ^ e) ≡ middleSquared e (v * g)
   step-squares v = omega arith
 
+  -- a value above b steps is a step above them at least, for a b with all the digits that the format keeps
   after : (b : ℕ) (y : Float) → Nonneg f y → 2 ^ (prec f - 1) ≤ b → b * g < key f y → (b + 1) * g ≤ key f y
   after b y q B h =
       let d = key-digits f y q in
@@ -46,6 +48,7 @@ module _ (f : Format) (n : ℕ) (short : size n ≤ 2 * prec f) (positive : 0 < 
   near : IsNearRoot (n * 4 ^ places f n) r a
   near = significand-near f n short
 
+  -- so the middle of x and a value above it is a + 1/2 steps at least, and the root is below that
   above : (y : Float) → Nonneg f y → a * g < key f y → exactSquared f n < middleSquared e (a * g + key f y)
   above y q h =
       let next = after a y q (significand-ge f n short positive) h in
@@ -53,20 +56,23 @@ module _ (f : Format) (n : ℕ) (short : size n ≤ 2 * prec f) (positive : 0 < 
       (lt-of-lt-of-le (mul-lt-mul-of-pos-right (near .under) (steps-pos f e n))
       (le-trans (le-of-eq (step-squares (2 * a + 1))) (mul-le-mul-right (4 ^ e) (square-le (omega arith)))))
 
+  -- The middle of x and a value below it is below x, and the root is not if a is the whole root r. Otherwise that value is r steps at most, so the middle is r + 1/2
+  -- steps at most, and the root is above that.
   below : (y : Float) → Nonneg f y → key f y < a * g → middleSquared e (a * g + key f y) < exactSquared f n
   below y q h = rw (in-steps f n short e small) (⊎-elim reached rounded-up (near .over))
     where
-      reached : (a ≡ r) × (square r ≤ n * 4 ^ places f n) → middleSquared e (a * g + key f y) < 4 * (n * 4 ^ places f n) * (square (g) * 4 ^ e)
+      reached : (a ≡ r) × (square r ≤ n * 4 ^ places f n) → middleSquared e (a * g + key f y) < 4 * (n * 4 ^ places f n) * (square g * 4 ^ e)
       reached w =
           lt-of-lt-of-le (mul-lt-mul-of-pos-right (square-lt {b = 2 * a * g} (omega arith)) (four-pos e))
-          (le-trans (le-of-eq (sym (step-squares (2 * a)))) (mul-le-mul-right (square (g) * 4 ^ e) (rw (w .0) (omega (arith, w .1)))))
+          (le-trans (le-of-eq (sym (step-squares (2 * a)))) (mul-le-mul-right (square g * 4 ^ e) (rw (w .0) (omega (arith, w .1)))))
 
-      rounded-up : (a ≡ r + 1) × (square (2 * r + 1) < 4 * (n * 4 ^ places f n)) → middleSquared e (a * g + key f y) < 4 * (n * 4 ^ places f n) * (square (g) * 4 ^ e)
+      rounded-up : (a ≡ r + 1) × (square (2 * r + 1) < 4 * (n * 4 ^ places f n)) → middleSquared e (a * g + key f y) < 4 * (n * 4 ^ places f n) * (square g * 4 ^ e)
       rounded-up w =
           let Y : key f y ≤ r * g = le-of-suc-le-suc (lt-of-not-le (λ l. not-le-of-lt (rw (w .0) at h) (after r y q (whole-ge f n short positive) l))) in
           lt-of-le-of-lt (mul-le-mul-right (4 ^ e) (square-le {b = (2 * r + 1) * g} (rw (w .0) (omega arith))))
           (lt-of-le-of-lt (le-of-eq (sym (step-squares (2 * r + 1)))) (mul-lt-mul-of-pos-right (w .1) (steps-pos f e n)))
 
+  -- a negative value is further off than 0 is
   negative : (y : Float) → middleSquared e (a * g - key f y) < exactSquared f n
   negative y =
       let Z : key f plusZero ≡ 0 = zero-key f in

@@ -1,18 +1,19 @@
 -- The root and its quotient by 2 ^ e are exact: each is the significand over a power of two, with nothing rounded on the way.
 use mathlib.Core.Path.{_≡_, refl, sym, ap, _∙_}
-use mathlib.Core.Bool.{Bool, true, false, true≢false}
-use mathlib.Core.Logic.{_⊎_, inl, inr}
-use Prim.Native.Nat.{ℕ, zero, suc, _+_, _-_, _*_, _/_, _^_, _≤_, _<_, zero-le}
-use native.Mathlib.Nat.{le-trans, le-of-eq, lt-of-lt-of-le, lt-irrefl, eq-or-lt-of-le, mul-pos, mul-assoc, mul-one, add-zero, one-mul, zero-mul, zero-lt-suc, mul-lt-mul-of-pos-right, eq-of-mul-eq-mul-right}
+use mathlib.Core.Bool.{true, false, true≢false}
+use mathlib.Core.Logic.{inl, inr}
+use Prim.Native.Nat.{ℕ, zero, suc, _+_, _-_, _*_, _^_, _≤_, _<_, zero-le}
+use native.Mathlib.Nat.{lt-of-lt-of-le, eq-or-lt-of-le, mul-pos, mul-assoc, mul-one, add-zero, one-mul, zero-lt-suc, eq-of-mul-eq-mul-right}
 use native.Mathlib.Omega.{arith}
-use lib.IntN.{ℤ, pos}
-use lib.Dec.{T, lit<, lit≤, eqb·suc-zero}
+use lib.IntN.{pos}
+use lib.Dec.{lit<, lit≤, eqb·suc-zero}
 use lib.Pow.{pow-pos, pow-add, pow-mono, pow-lt, shl-lt}
-use lib.Ieee.{Float, nan, inf, fin, Format, binary32, binary64, prec, emax, low, up, down, size, round, div}
+use lib.Ieee.{Float, nan, inf, fin, Format, binary32, binary64, prec, emax, low, up, down, size, round, ofInt, div}
 use lib.Ieee.Fits.{two, two-le-pos, up-pos, down-pos, round-fits}
+use lib.Ieee.Back.{round-whole}
 use lib.Ieee.Exact.{HasValue, round-exact}
-use lib.Ieee.Scale.{round-same, overflow}
-use Rattle.sums.specs.Key.{Nonneg, key, key-value}
+use lib.Ieee.Scale.{round-same}
+use Rattle.sums.specs.Key.{key, key-value}
 use Rattle.length.specs.Root.{square, places, significand, root, rootOver}
 use Rattle.length.specs.Nearest.{exactSquared}
 use Rattle.length.specs.Digits.{four, four-pos, places-is, significand-le}
@@ -57,6 +58,12 @@ div-value f (fin false m e) (fin false (suc n) g) a c b d C B D v w =
     (round-same f false (m * up e * down g) (suc n * up g * down e) (a * d) (c * b) (mul-pos (mul-pos (zero-lt-suc n) (up-pos g)) (down-pos e)) (mul-pos C B)
     (omega (arith, ap (λ (z : ℕ). z * (suc n * up g * d)) (v .1), ap (λ (z : ℕ). z * (m * up e * c)) (w .1))))
 
+-- the quotient of two whole numbers that are floats
+pub whole-quotient : (f : Format) (a b : ℕ) → a ≤ 2 ^ prec f → b ≤ 2 ^ prec f → 0 < b → div f (ofInt f (pos a)) (ofInt f (pos b)) ≡ round f false a b
+unfolding ofInt
+whole-quotient f a b A B P =
+    div-value f (round f false a 1) (round f false b 1) a 1 b 1 (lit< tt) P (lit< tt) (round-whole f false a A) (round-whole f false b B) ∙ rw (mul-one a, one-mul b)
+
 -- one of the significand's last digit, over 2 ^ e, in units
 abbrev pub step : Format → ℕ → ℕ → ℕ
 step f e n = 2 ^ (low f - (places f n + e))
@@ -65,11 +72,11 @@ step f e n = 2 ^ (low f - (places f n + e))
 abbrev pub scaled : Format → ℕ → ℕ → Float
 scaled f e n = round f false (significand f n) (2 ^ (places f n + e))
 
-root-rounds : (f : Format) (n : ℕ) → root f n ≡ round f false (significand f n) (2 ^ places f n)
+pub root-rounds : (f : Format) (n : ℕ) → root f n ≡ round f false (significand f n) (2 ^ places f n)
 unfolding root
 root-rounds f n = refl
 
-root-over-divides : (f : Format) (e n : ℕ) → rootOver f e n ≡ div f (root f n) (fin false 1 (pos e))
+pub root-over-divides : (f : Format) (e n : ℕ) → rootOver f e n ≡ div f (root f n) (fin false 1 (pos e))
 unfolding rootOver
 root-over-divides f e n = refl
 

@@ -3,8 +3,7 @@ use mathlib.Core.Path.{_≡_, refl}
 use mathlib.Core.Bool.{Bool, true, false, not, cond}
 use mathlib.Core.Logic.{_⊎_, inl, inr, ⊎-elim}
 use Prim.Native.Nat.{ℕ, zero, suc, _+_, _-_, _*_, _/_, _^_, _≤_, _<_, zero-le}
-use native.Mathlib.Nat.{le-antisymm, le-trans, lt-of-not-le, not-le-of-lt, mul-le-mul, pow-suc}
-use native.Mathlib.Decide.{decLe}
+use native.Mathlib.Nat.{le-trans, lt-of-not-le, not-le-of-lt, mul-le-mul, pow-suc}
 use native.Mathlib.Omega.{arith}
 use lib.Dec.{T, leb, ltb, leb→le, nleb→lt, ltb→lt, nltb→le}
 use Rattle.length.specs.Root.{square, wholeRoot, nearRoot}
@@ -50,6 +49,6 @@ near-root d n h =
     side r p true y z = let up = y tt in record { under = omega (arith, p .next); over = inr (refl, omega (arith, p .reached)) }
     side r p false y z = let down = z tt in record { under = omega (arith, p .reached); over = inl (refl, p .reached) }
 
--- (a - 1/2)² is no more than n, doubled and squared, less what that is above a² - a
-pub near-low : (n r a : ℕ) → IsNearRoot n r a → 4 * square a ≤ 4 * n + 4 * a
+-- a is no more than 1/2 above the root
+pub near-low : (n r a : ℕ) → IsNearRoot n r a → square a ≤ n + a
 near-low n r a p = ⊎-elim (λ w. rw (w .0) (omega (arith, w .1))) (λ w. rw (w .0) (omega (arith, w .1))) (p .over)

@@ -2,17 +2,17 @@
 -- rounding has it. Keys order such floats as `lt` does, and two floats with one key are one float. So what is claimed of their order is arithmetic.
 use mathlib.Core.Path.{_≡_, refl, sym, ap, _∙_, subst}
 use mathlib.Core.Bool.{Bool, true, false, not, _&&_}
-use mathlib.Core.Logic.{_⊎_, inl, inr}
 use Prim.Native.Nat.{ℕ, zero, suc, _+_, _-_, _*_, _/_, _%_, _^_, _≤_, _<_, zero-le}
 use native.Mathlib.Nat.{le-refl, le-trans, le-of-eq, le-of-lt, lt-of-not-le, not-le-of-lt, lt-of-mul-lt-mul-right, le-of-mul-le-mul-right, eq-of-mul-eq-mul-right, mul-assoc, mul-one, one-mul, mul-pos, mul-div-cancel, mul-le-mul-right, mul-lt-mul-of-pos-right, zero-mul}
 use native.Mathlib.Decide.{decLe}
 use native.Mathlib.Omega.{arith}
 use lib.IntN.{ℤ, pos, negsuc}
-use lib.Dec.{T, ltb, eqb, leb, eqb→eq, ltb→lt, leb→le, lt→ltb, not-T, lit<}
+use lib.Dec.{T, ltb, eqb, leb, eqb→eq, ltb→lt, leb→le, lt→ltb, lit<}
+use borrow.Author.Tests.{lt-ltb, le-ltb}
 use lib.Pow.{pow-pos, pow-add, pow-lt}
-use lib.Ieee.{Float, nan, inf, fin, Format, prec, emax, low, up, down, size, fits, lt, toBits, ofBits}
+use lib.Ieee.{Float, nan, inf, fin, Format, prec, emax, low, up, down, size, fits, isNan, lt, toBits, ofBits}
 use lib.Ieee.Fits.{up-pos, down-pos, and-l, and-r, two}
-use lib.Ieee.Bits.{ofBits-toBits, is-true, is-false}
+use lib.Ieee.Bits.{ofBits-toBits}
 use lib.Ieee.Exact.{HasValue}
 use lib.Ieee.Scale.{overflow, finite}
 
@@ -25,6 +25,12 @@ nonneg (fin s m e) = not s
 pub record Nonneg (f : Format) (x : Float) : Type 0 where
   pub fit : T (fits f x)
   pub sign : T (nonneg x)
+
+pub nonneg-number : (f : Format) (x : Float) → Nonneg f x → T (not (isNan x))
+unfolding isNan
+nonneg-number f nan p = absurd (p .sign)
+nonneg-number f (inf s) p = tt
+nonneg-number f (fin s m e) p = tt
 
 -- how many times 2 ^ -low the value is in size, its sign left out
 abbrev pub key : Format → Float → ℕ
@@ -121,12 +127,6 @@ same-test true false h k = absurd (h tt)
 same-test false true h k = absurd (k tt)
 same-test false false h k = refl
 
-ltb-yes : (m n : ℕ) → m < n → ltb m n ≡ true
-ltb-yes m n h = is-true (ltb m n) (lt→ltb m n h)
-
-ltb-no : (m n : ℕ) → n ≤ m → ltb m n ≡ false
-ltb-no m n h = is-false (ltb m n) (not-T (ltb m n) (λ t. not-le-of-lt (ltb→lt m n t) h))
-
 ltb-units : (a p b q u v l : ℕ) → 0 < l → 0 < p → 0 < q → u * p ≡ a * l → v * q ≡ b * l → ltb (a * q) (b * p) ≡ ltb u v
 ltb-units a p b q u v l L P Q h k =
     same-test (ltb (a * q) (b * p)) (ltb u v)
@@ -141,12 +141,12 @@ module _ (f : Format) where
   lt-key (fin true m e) y p q = absurd (p .sign)
   lt-key (inf false) nan p q = absurd (q .sign)
   lt-key (inf false) (inf true) p q = absurd (q .sign)
-  lt-key (inf false) (inf false) p q = sym (ltb-no (overflow f) (overflow f) (le-refl (overflow f)))
+  lt-key (inf false) (inf false) p q = sym (le-ltb (overflow f) (overflow f) (le-refl (overflow f)))
   lt-key (inf false) (fin true n d) p q = absurd (q .sign)
-  lt-key (inf false) (fin false n d) p q = sym (ltb-no (overflow f) (key f (fin false n d)) (le-of-lt (key-finite f false n d (q .fit))))
+  lt-key (inf false) (fin false n d) p q = sym (le-ltb (overflow f) (key f (fin false n d)) (le-of-lt (key-finite f false n d (q .fit))))
   lt-key (fin false m e) nan p q = absurd (q .sign)
   lt-key (fin false m e) (inf true) p q = absurd (q .sign)
-  lt-key (fin false m e) (inf false) p q = sym (ltb-yes (key f (fin false m e)) (overflow f) (key-finite f false m e (p .fit)))
+  lt-key (fin false m e) (inf false) p q = sym (lt-ltb (key f (fin false m e)) (overflow f) (key-finite f false m e (p .fit)))
   lt-key (fin false m e) (fin true n d) p q = absurd (q .sign)
   lt-key (fin false m e) (fin false n d) p q =
       ltb-units (m * up e) (down e) (n * up d) (down d) (key f (fin false m e)) (key f (fin false n d)) (2 ^ low f) (pow-pos (low f)) (down-pos e) (down-pos d)

@@ -3,13 +3,13 @@
 use mathlib.Core.Path.{_≡_, refl, sym, ap, _∙_}
 use mathlib.Core.Bool.{Bool, true, false, _&&_, _||_, cond}
 use mathlib.Core.Logic.{_⊎_, inl, inr}
-use Prim.Native.Nat.{ℕ, zero, suc, _+_, _*_, _^_, _≤_, _<_}
-use native.Mathlib.Nat.{le-refl, le-trans, le-of-eq, le-of-lt, le-antisymm, mul-pos, mul-le-mul-right, one-mul, add-comm, zero-add as nat-zero-add, eq-of-mul-eq-mul-right}
+use Prim.Native.Nat.{ℕ, zero, suc, _+_, _*_, _^_, _≤_}
+use native.Mathlib.Nat.{le-refl, le-trans, le-of-eq, le-of-lt, le-antisymm, mul-pos, mul-le-mul-right, add-comm, zero-add as nat-zero-add, eq-of-mul-eq-mul-right}
 use native.Mathlib.Omega.{arith}
-use lib.IntN.{ℤ, pos}
+use lib.IntN.{pos}
 use lib.Dec.{T, ltb, eqb, ltb→lt, eqb→eq}
 use lib.Pow.{pow-pos}
-use lib.Ieee.{Float, nan, inf, fin, Format, binary32, binary64, prec, emax, low, up, down, fits, round, odd, units, add, le}
+use lib.Ieee.{Float, nan, inf, fin, Format, binary32, binary64, prec, low, up, down, fits, round, odd, units, add, le, ofBits}
 use lib.Ieee.Fits.{and-l, down-pos, add-fits, round-fits, round-is}
 use lib.Ieee.Exact.{HasValue, round-exact}
 use lib.Ieee.Order.{round-mono}
@@ -125,8 +125,8 @@ module _ (f : Format) where
       (mul-pos (down-pos e) (down-pos d)) (pow-pos (low f))
       (sum-units (m * up e) (down e) (n * up d) (down d) (key f (fin false m e)) (key f (fin false n d)) (2 ^ low f) (key-exact f false m e (p .fit)) (key-exact f false n d (q .fit))))
 
-  pub add-swap : (x y : Float) → Nonneg f x → Nonneg f y → add f x y ≡ add f y x
-  add-swap x y p q =
+  pub add-commutes : (x y : Float) → Nonneg f x → Nonneg f y → add f x y ≡ add f y x
+  add-commutes x y p q =
       key-inj f (add f x y) (add f y x) (add-nonneg x y p q) (add-nonneg y x q p)
       (add-key x y p q ∙ ap (λ (u : ℕ). key f (rounded f u)) (add-comm (key f x) (key f y)) ∙ sym (add-key y x q p))
 
@@ -160,6 +160,17 @@ pub inf-nonneg : (f : Format) → Nonneg f (inf false)
 unfolding fits
 inf-nonneg f = record { fit = tt; sign = tt }
 
+-- as code writes them
+pub zero-bits : (f : Format) → ofBits f 0 ≡ plusZero
+unfolding ofBits
+zero-bits binary32 = refl
+zero-bits binary64 = refl
+
+pub inf-bits : ofBits binary64 0x7ff0_0000_0000_0000 ≡ inf false
+unfolding ofBits
+inf-bits = refl
+
+-- sums start from 0.0
 pub zero-add : (f : Format) (x : Float) → Nonneg f x → add f plusZero x ≡ x
 zero-add f x p =
     key-inj f (add f plusZero x) x (add-nonneg f plusZero x (zero-nonneg f) p) p
@@ -173,7 +184,7 @@ inf-add f (inf false) p = refl
 inf-add f (fin s m e) p = refl
 
 pub add-inf : (f : Format) (x : Float) → Nonneg f x → add f x (inf false) ≡ inf false
-add-inf f x p = add-swap f x (inf false) p (inf-nonneg f) ∙ inf-add f x p
+add-inf f x p = add-commutes f x (inf false) p (inf-nonneg f) ∙ inf-add f x p
 
 -- what a sum reaches where its exact value is 2 ^ (emax + 1) or more
 pub add-overflow : (f : Format) (x y : Float) → Nonneg f x → Nonneg f y → overflow f ≤ key f x + key f y → add f x y ≡ inf false
