@@ -19,6 +19,12 @@ find p (q ∷ qs) i = elim (same p q) [ true ↦ i | false ↦ find p qs (suc i)
 abbrev pub nodeOf : List Point → Point → ℕ
 nodeOf ns p = find p ns 0
 
+abbrev noPoint : Point
+noPoint = record { x = 0; y = 0 }
+
+abbrev pub pointAt : List Point → ℕ → Point
+pointAt ns v = getD ns v noPoint
+
 unfoldable pub getOrInsert : List Point → Point → List Point
 unfolding find
 getOrInsert ns p = elim (ltb (nodeOf ns p) (length ns)) [ true ↦ ns | false ↦ ns ++ (p ∷ []) ]

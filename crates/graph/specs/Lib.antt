@@ -5,3 +5,4 @@ pub mod Degree
 pub mod Count
 pub mod Ways
 pub mod Reach
+pub mod Nodes
