@@ -6,3 +6,4 @@ pub mod Count
 pub mod Ways
 pub mod Reach
 pub mod Nodes
+pub mod Strokes
