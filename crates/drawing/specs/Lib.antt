@@ -6,3 +6,4 @@ pub mod Drawing
 pub mod Same
 pub mod Refusal
 pub mod Read
+pub mod OnGrid

@@ -49,3 +49,7 @@ module _ {A : Type 0} where
 pub all-map : {A B : Type 0} (f : A → B) (P : B → Type 0) (xs : List A) → All (λ (x : A). P (f x)) xs → All P (map f xs)
 all-map f P [] a = tt
 all-map f P (x ∷ xs) a = (a .0, all-map f P xs (a .1))
+
+pub all-imp : {A : Type 0} (P Q : A → Type 0) → ((x : A) → P x → Q x) → (xs : List A) → All P xs → All Q xs
+all-imp P Q f [] a = tt
+all-imp P Q f (x ∷ xs) a = (f x (a .0), all-imp P Q f xs (a .1))

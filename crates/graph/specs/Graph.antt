@@ -7,7 +7,7 @@ use lib.Dec.{eqb, ltb}
 use lib.Ieee.{Float}
 use Rattle.length.specs.Root.{lengthOf, rootOver}
 use Rattle.drawing.specs.Drawing.{Point, same, Drawing}
-use Rattle.graph.specs.Chain.{Stroke, squared, piecesOf, linksOf, usesOf}
+use Rattle.graph.specs.Chain.{Stroke, squared, piecesOf, linksOf, strokesOf, usesOf}
 
 -- ---- nodes
 
@@ -56,7 +56,7 @@ unfoldable pub buildGraph : Drawing → Graph
 unfolding firstUses usesOf piecesOf linksOf edgeOf
 buildGraph d =
     let ns = firstUses [] (usesOf d) in
-    record { nodes = ns; edges = map (edgeOf ns) (piecesOf d ++ linksOf d) }
+    record { nodes = ns; edges = map (edgeOf ns) (strokesOf d) }
 
 -- ---- a node's edges, in document 01's order: those with it as first end, newest first, then those with it as second end, newest first
 

@@ -9,3 +9,5 @@ pub mod EdgesAt
 pub mod Reach
 pub mod Nodes
 pub mod Strokes
+pub mod Between
+pub mod Built

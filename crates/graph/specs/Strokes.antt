@@ -6,7 +6,7 @@ use Prim.Native.Nat.{ℕ, suc}
 use lib.Dec.{eqb, leb}
 use Rattle.drawing.specs.Drawing.{Point, same, End, Link, Drawing}
 use Rattle.drawing.specs.Members.{In, All, all-append, all-front, all-back, all-own}
-use Rattle.graph.specs.Chain.{squared, Stroke, stroke, naming, splits, insert, sort, inner, changes, distinct, chain, pieces, linePieces, lineUses, piecesFrom, usesFrom, piecesOf, linkStrokes, linksOf, linkUses, usesOf}
+use Rattle.graph.specs.Chain.{squared, Stroke, stroke, naming, splits, insert, sort, inner, changes, distinct, chain, pieces, linePieces, lineUses, piecesFrom, usesFrom, piecesOf, linkStrokes, linksOf, strokesOf, linkUses, usesOf}
 
 -- both ends have the property P, and they differ
 pub record Between (P : Point → Type 0) (s : Stroke) : Type 0 where
@@ -55,7 +55,7 @@ module _ (P : Point → Type 0) where
       all-append (Between P) (pieces (k .first .point) (k .second .point ∷ [])) (linkStrokes ks)
       (pieces-between (k .first .point) (k .second .point ∷ []) (u .0) (u .1 .0, tt)) (links-between ks (u .1 .1))
 
-  pub strokes-between : (d : Drawing) → All P (usesOf d) → All (Between P) (piecesOf d ++ linksOf d)
+  pub strokes-between : (d : Drawing) → All P (usesOf d) → All (Between P) (strokesOf d)
   unfolding usesOf piecesOf linksOf
   strokes-between d u =
       let lines = usesFrom (d .links) 0 (d .lines) in
@@ -63,7 +63,7 @@ module _ (P : Point → Type 0) where
       (lines-between (d .links) 0 (d .lines) (all-front P lines (linkUses (d .links)) u)) (links-between (d .links) (all-back P lines (linkUses (d .links)) u))
 
 -- so the ends of every stroke are points of use
-pub strokes-used : (d : Drawing) → All (Between (λ (p : Point). In p (usesOf d))) (piecesOf d ++ linksOf d)
+pub strokes-used : (d : Drawing) → All (Between (λ (p : Point). In p (usesOf d))) (strokesOf d)
 strokes-used d = strokes-between (λ (p : Point). In p (usesOf d)) d (all-own (usesOf d))
 
 -- ---- what holds of every point of a line and every end of a link holds of every point of use
