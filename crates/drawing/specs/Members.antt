@@ -1,6 +1,7 @@
 -- The elements of a list: what it is to be one of them, and what holds of each.
 use mathlib.Core.Path.{_≡_, refl, sym, subst}
 use mathlib.Core.Logic.{_⊎_, inl, inr}
+use mathlib.Core.Bool.{Bool, true, false}
 use mathlib.Core.List.{List, [], _∷_, _++_, map}
 
 abbrev pub In : {A : Type 0} → A → List A → Type 0
@@ -12,15 +13,12 @@ abbrev pub All : {A : Type 0} → (A → Type 0) → List A → Type 0
 All P [] = Unit {0}
 All P (x ∷ xs) = P x × All P xs
 
+-- what holds in both cases of a test holds of the case that is taken
+pub either : {A : Type 0} (P : A → Type 0) (x y : A) → P x → P y → (t : Bool) → P (elim t [ true ↦ x | false ↦ y ])
+either P x y h k true = h
+either P x y h k false = k
+
 module _ {A : Type 0} where
-  pub in-left : (x : A) (xs ys : List A) → In x xs → In x (xs ++ ys)
-  in-left x (y ∷ xs) ys (inl e) = inl e
-  in-left x (y ∷ xs) ys (inr i) = inr (in-left x xs ys i)
-
-  pub in-last : (x : A) (xs : List A) → In x (xs ++ (x ∷ []))
-  in-last x [] = inl refl
-  in-last x (y ∷ xs) = inr (in-last x xs)
-
   module _ (P : A → Type 0) where
     pub all-in : (xs : List A) → All P xs → (x : A) → In x xs → P x
     all-in (y ∷ xs) a x (inl e) = subst P (sym e) (a .0)

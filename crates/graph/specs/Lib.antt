@@ -11,3 +11,4 @@ pub mod Nodes
 pub mod Strokes
 pub mod Between
 pub mod Built
+pub mod Few

@@ -5,7 +5,7 @@ use mathlib.Core.Bool.{Bool, true, false, _&&_, not}
 use Prim.Native.Nat.{ℕ, suc}
 use lib.Dec.{eqb, leb}
 use Rattle.drawing.specs.Drawing.{Point, same, End, Link, Drawing}
-use Rattle.drawing.specs.Members.{In, All, all-append, all-front, all-back, all-own}
+use Rattle.drawing.specs.Members.{In, All, either, all-append, all-front, all-back, all-own}
 use Rattle.graph.specs.Chain.{squared, Stroke, stroke, naming, splits, insert, sort, inner, changes, distinct, chain, pieces, linePieces, lineUses, piecesFrom, usesFrom, piecesOf, linkStrokes, linksOf, strokesOf, linkUses, usesOf}
 
 -- both ends have the property P, and they differ
@@ -74,11 +74,7 @@ AtEnds P k = P (k .first .point) × P (k .second .point)
 module _ (P : Point → Type 0) where
   naming-all : (l s : ℕ) (e : End) (ps : List Point) → P (e .point) → All P ps → All P (naming l s e ps)
   unfolding naming
-  naming-all l s e ps h a = go (eqb (e .line) l && eqb (e .segment) s)
-    where
-      go : (t : Bool) → All P (elim t [ true ↦ e .point ∷ ps | false ↦ ps ])
-      go true = (h, a)
-      go false = a
+  naming-all l s e ps h a = either (All P) (e .point ∷ ps) ps (h, a) a (eqb (e .line) l && eqb (e .segment) s)
 
   splits-all : (ks : List Link) (l s : ℕ) → All (AtEnds P) ks → All P (splits ks l s)
   unfolding splits
@@ -89,11 +85,7 @@ module _ (P : Point → Type 0) where
   insert-all : (a p : Point) (ps : List Point) → P p → All P ps → All P (insert a p ps)
   unfolding insert
   insert-all a p [] h u = (h, tt)
-  insert-all a p (q ∷ qs) h u = go (leb (squared a p) (squared a q)) (insert-all a p qs h (u .1))
-    where
-      go : (t : Bool) → All P (insert a p qs) → All P (elim t [ true ↦ p ∷ q ∷ qs | false ↦ q ∷ insert a p qs ])
-      go true r = (h, u)
-      go false r = (u .0, r)
+  insert-all a p (q ∷ qs) h u = either (All P) (p ∷ q ∷ qs) (q ∷ insert a p qs) (h, u) (u .0, insert-all a p qs h (u .1)) (leb (squared a p) (squared a q))
 
   sort-all : (a : Point) (ps : List Point) → All P ps → All P (sort a ps)
   unfolding sort
@@ -103,20 +95,12 @@ module _ (P : Point → Type 0) where
   inner-all : (a b : Point) (ps : List Point) → All P ps → All P (inner a b ps)
   unfolding inner
   inner-all a b [] u = tt
-  inner-all a b (p ∷ ps) u = go (not (same p a) && not (same p b)) (inner-all a b ps (u .1))
-    where
-      go : (t : Bool) → All P (inner a b ps) → All P (elim t [ true ↦ p ∷ inner a b ps | false ↦ inner a b ps ])
-      go true r = (u .0, r)
-      go false r = r
+  inner-all a b (p ∷ ps) u = let r = inner-all a b ps (u .1) in either (All P) (p ∷ inner a b ps) (inner a b ps) (u .0, r) r (not (same p a) && not (same p b))
 
   changes-all : (p : Point) (qs : List Point) → All P qs → All P (changes p qs)
   unfolding changes
   changes-all p [] u = tt
-  changes-all p (q ∷ qs) u = go (same q p) (changes-all p qs (u .1)) (changes-all q qs (u .1))
-    where
-      go : (t : Bool) → All P (changes p qs) → All P (changes q qs) → All P (elim t [ true ↦ changes p qs | false ↦ q ∷ changes q qs ])
-      go true r s = r
-      go false r s = (u .0, s)
+  changes-all p (q ∷ qs) u = either (All P) (changes p qs) (q ∷ changes q qs) (changes-all p qs (u .1)) (u .0, changes-all q qs (u .1)) (same q p)
 
   distinct-all : (ps : List Point) → All P ps → All P (distinct ps)
   unfolding distinct
