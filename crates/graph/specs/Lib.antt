@@ -12,3 +12,4 @@ pub mod Strokes
 pub mod Between
 pub mod Built
 pub mod Few
+pub mod Reached
