@@ -13,3 +13,4 @@ pub mod Between
 pub mod Built
 pub mod Few
 pub mod Reached
+pub mod Samples
