@@ -17,7 +17,7 @@ use Rattle.length.specs.Length.{length-nonneg}
 use Rattle.drawing.specs.Drawing.{Point, Drawing, same}
 use Rattle.drawing.specs.Same.{differ}
 use Rattle.drawing.specs.Members.{In, All, all-in, all-map, all-imp}
-use Rattle.drawing.specs.OnGrid.{OnGrid}
+use Rattle.drawing.specs.OnGrid.{OnGrid, AtEnds}
 use Rattle.graph.specs.Chain.{Stroke, squared, strokesOf, usesOf}
 use Rattle.graph.specs.Graph.{Edge, nodeOf, pointAt, firstUses, edgeOf, buildGraph}
 use Rattle.graph.specs.Degree.{hit, degree}
@@ -25,7 +25,7 @@ use Rattle.graph.specs.Count.{joint, joining, lies, touches, strokesBetw
 use Rattle.graph.specs.Ways.{Inside}
 use Rattle.graph.specs.Sums.{degree-sum}
 use Rattle.graph.specs.Nodes.{IsNode, Numbered, node-point, uses-numbered, uses-nodes}
-use Rattle.graph.specs.Strokes.{Between, AtEnds, strokes-between, uses-of-all}
+use Rattle.graph.specs.Strokes.{Between, strokes-between, uses-of-all}
 use Rattle.graph.specs.Between.{sum-none, sum-map, lies-joint, touches-hit, lies-none, touches-none}
 
 nodes-are : (d : Drawing) → buildGraph d .nodes ≡ firstUses [] (usesOf d)

@@ -6,6 +6,7 @@ use Prim.Native.Nat.{ℕ, suc}
 use lib.Dec.{eqb, leb}
 use Rattle.drawing.specs.Drawing.{Point, same, End, Link, Drawing}
 use Rattle.drawing.specs.Members.{In, All, either, all-append, all-front, all-back, all-own}
+use Rattle.drawing.specs.OnGrid.{AtEnds}
 use Rattle.graph.specs.Chain.{squared, Stroke, stroke, naming, splits, insert, sort, inner, changes, distinct, chain, pieces, linePieces, lineUses, piecesFrom, usesFrom, piecesOf, linkStrokes, linksOf, strokesOf, linkUses, usesOf}
 
 -- both ends have the property P, and they differ
@@ -67,9 +68,6 @@ pub strokes-used : (d : Drawing) → All (Between (λ (p : Point). In p (usesOf 
 strokes-used d = strokes-between (λ (p : Point). In p (usesOf d)) d (all-own (usesOf d))
 
 -- ---- what holds of every point of a line and every end of a link holds of every point of use
-
-abbrev pub AtEnds : (Point → Type 0) → Link → Type 0
-AtEnds P k = P (k .first .point) × P (k .second .point)
 
 module _ (P : Point → Type 0) where
   naming-all : (l s : ℕ) (e : End) (ps : List Point) → P (e .point) → All P ps → All P (naming l s e ps)
