@@ -3,3 +3,4 @@ pub mod Plan
 pub mod Words
 pub mod Demand3
 pub mod Samples
+pub mod Written
