@@ -1,3 +1,7 @@
 -- Which line is drawn through the repaired graph.
 pub mod Walk
 pub mod Line
+pub mod Free
+pub mod Next
+pub mod Trail
+pub mod Circuit
