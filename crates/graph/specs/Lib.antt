@@ -5,6 +5,7 @@ pub mod Degree
 pub mod Count
 pub mod Ways
 pub mod Sums
+pub mod Lines
 pub mod EdgesAt
 pub mod Odd
 pub mod Connected
