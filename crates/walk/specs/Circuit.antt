@@ -35,11 +35,11 @@ pub record Circuit (es : List Edge) (s : ℕ) (o : List Entry) : Type 0 where
 -- ---- the walk has every edge, where all can be reached
 
 -- 1 at the edge j
-abbrev isNumber : ℕ → Weight
+abbrev pub isNumber : ℕ → Weight
 isNumber j i e = hit i j
 
 -- an edge counts among all
-allSum-ge : (g : Weight) (es : List Edge) (j : ℕ) → j < length es → g j (edgeAt es j) ≤ allSum g 0 es
+pub allSum-ge : (g : Weight) (es : List Edge) (j : ℕ) → j < length es → g j (edgeAt es j) ≤ allSum g 0 es
 allSum-ge g es j l =
     omega (arith, freeSum-all g 0 es, rw zero-add at (freeSum-use g 0 es (replicate (length es) false) j l (getD-replicate (length es) j false true l)))
 

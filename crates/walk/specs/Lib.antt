@@ -5,3 +5,4 @@ pub mod Free
 pub mod Next
 pub mod Trail
 pub mod Circuit
+pub mod Cut
