@@ -1,11 +1,12 @@
 -- Laws of lines: sums of steps and ends of two lines joined, of a line's image and of a line reversed.
 use mathlib.Core.Path.{_≡_, refl, sym, ap, _∙_}
+use mathlib.Core.Logic.{_⊎_, inl, inr}
 use mathlib.Core.List.{List, [], _∷_, _++_, map, reverse, reverseAux}
 use Prim.Native.Nat.{ℕ, _+_}
 use native.Mathlib.Nat.{zero-add, add-zero}
 use native.Mathlib.Omega.{arith}
 use Rattle.graph.specs.Count.{stepSum, lineSum, lastFrom}
-use Rattle.graph.specs.Ways.{All}
+use Rattle.graph.specs.Ways.{In, All}
 
 -- ---- one line after another
 
@@ -30,6 +31,16 @@ all-front P (x ∷ xs) ys p = (p .0, all-front P xs ys (p .1))
 pub all-back : {A : Type 0} (P : A → Type 0) (xs ys : List A) → All P (xs ++ ys) → All P ys
 all-back P [] ys p = p
 all-back P (x ∷ xs) ys p = all-back P xs ys (p .1)
+
+pub in-front : {A : Type 0} (x : A) (xs ys : List A) → In x xs → In x (xs ++ ys)
+in-front x [] ys h = absurd h
+in-front x (y ∷ xs) ys (inl e) = inl e
+in-front x (y ∷ xs) ys (inr h) = inr (in-front x xs ys h)
+
+pub in-append : {A : Type 0} (x : A) (xs ys : List A) → In x (xs ++ ys) → In x xs ⊎ In x ys
+in-append x [] ys h = inr h
+in-append x (y ∷ xs) ys (inl e) = inl (inl e)
+in-append x (y ∷ xs) ys (inr h) = elim (in-append x xs ys h) [ inl k ↦ inl (inr k) | inr k ↦ inr k ]
 
 -- ---- the image of a line
 

@@ -6,3 +6,5 @@ pub mod Next
 pub mod Trail
 pub mod Circuit
 pub mod Cut
+pub mod Start
+pub mod Traced
