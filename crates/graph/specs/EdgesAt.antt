@@ -1,5 +1,5 @@
 -- A node's edges: each of them is an edge with the node as an end, and every edge with the node as an end is among them.
-use mathlib.Core.Path.{_≡_, refl}
+use mathlib.Core.Path.{_≡_, refl, sym}
 use mathlib.Core.Logic.{_⊎_, inl, inr}
 use mathlib.Core.List.{List, [], _∷_}
 use mathlib.Core.Bool.{Bool, true, false}
@@ -20,6 +20,19 @@ pub edgeAt-in : (es : List Edge) (i : ℕ) → i < length es → In (edgeAt es i
 edgeAt-in [] i h = absurd (not-suc-le-zero h)
 edgeAt-in (e ∷ es) zero h = inl refl
 edgeAt-in (e ∷ es) (suc i) h = inr (edgeAt-in es i (le-of-suc-le-suc h))
+
+-- the number of an edge
+pub record NumberOf (es : List Edge) (e : Edge) : Type 0 where
+  pub number : ℕ
+  pub isEdge : number < length es
+  pub is : edgeAt es number ≡ e
+
+pub number-of : (es : List Edge) (e : Edge) → In e es → NumberOf es e
+number-of [] e h = absurd h
+number-of (x ∷ es) e (inl p) = record { number = 0; isEdge = zero-lt-suc (length es); is = sym p }
+number-of (x ∷ es) e (inr h) =
+    let k = number-of es e h in
+    record { number = suc (k .number); isEdge = suc-le-suc (k .isEdge); is = k .is }
 
 -- the edge e, with the number i, seen from its end that is not the far one
 abbrev pub arcOf : (Edge → ℕ) → ℕ → Edge → Arc

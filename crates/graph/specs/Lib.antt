@@ -5,7 +5,10 @@ pub mod Degree
 pub mod Count
 pub mod Ways
 pub mod Sums
+pub mod Lines
 pub mod EdgesAt
+pub mod Odd
+pub mod Connected
 pub mod Reach
 pub mod Nodes
 pub mod Strokes
