@@ -1,5 +1,7 @@
 -- Which odd nodes are paired, and which way each retrace goes.
 pub mod Distance
+pub mod Cost
+pub mod Relax
 pub mod Retrace
 pub mod Pairing
 pub mod Repair
