@@ -1,5 +1,5 @@
 -- Ways along edges, what they cost, and the least of these costs: what document 01 and Dijkstra 1959 ask of a distance.
-use mathlib.Core.Path.{_≡_, refl, subst}
+use mathlib.Core.Path.{_≡_}
 use mathlib.Core.Logic.{_⊎_, inl, inr}
 use mathlib.Core.List.{List}
 use Prim.Native.Nat.{ℕ, _≤_}

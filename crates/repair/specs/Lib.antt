@@ -2,6 +2,8 @@
 pub mod Distance
 pub mod Cost
 pub mod Relax
+pub mod Nearest
+pub mod Least
 pub mod Retrace
 pub mod Pairing
 pub mod Repair
