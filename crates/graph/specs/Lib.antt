@@ -4,4 +4,6 @@ pub mod Graph
 pub mod Degree
 pub mod Count
 pub mod Ways
+pub mod Sums
+pub mod EdgesAt
 pub mod Reach
