@@ -5,5 +5,6 @@ pub mod Relax
 pub mod Nearest
 pub mod Least
 pub mod Retrace
+pub mod Along
 pub mod Pairing
 pub mod Repair
