@@ -1,6 +1,6 @@
 -- A retrace leads along edges, from one node of its pair to the other.
-use mathlib.Core.Path.{_≡_, refl, sym, _∙_}
-use mathlib.Core.Logic.{_⊎_, inl, inr}
+use mathlib.Core.Path.{_≡_, refl}
+use mathlib.Core.Logic.{inl, inr}
 use mathlib.Core.List.{List, [], _∷_}
 use mathlib.Core.Bool.{Bool, true, false, _&&_, not}
 use Prim.Native.Nat.{ℕ, zero, suc}
@@ -9,10 +9,10 @@ use lib.Dec.{eqb}
 use lib.Ieee.{Float}
 use borrow.Author.Tests.{eqb-true}
 use Rattle.graph.specs.Graph.{Edge, Arc, edgesAt}
-use Rattle.graph.specs.Ways.{In, Joins, Joined, Walks}
+use Rattle.graph.specs.Ways.{In, Joined, Walks}
 use Rattle.graph.specs.EdgesAt.{arc-joins}
 use Rattle.repair.specs.Distance.{distanceAt, distances}
-use Rattle.repair.specs.Retrace.{Step, to, none, Path, found, error, onWayBack, member, stepBack, wayBack, shortestPath}
+use Rattle.repair.specs.Retrace.{Step, to, none, found, error, onWayBack, member, stepBack, wayBack, shortestPath}
 
 pub joined-comm : {es : List Edge} {u v : ℕ} → Joined es u v → Joined es v u
 joined-comm k = record { by = k .by; isIn = k .isIn; joins = elim (k .joins) [ inl p ↦ inr p | inr p ↦ inl p ] }
