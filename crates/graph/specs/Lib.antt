@@ -6,4 +6,6 @@ pub mod Count
 pub mod Ways
 pub mod Sums
 pub mod EdgesAt
+pub mod Odd
+pub mod Connected
 pub mod Reach
