@@ -9,3 +9,7 @@ pub mod EdgesAt
 pub mod Odd
 pub mod Connected
 pub mod Reach
+pub mod Nodes
+pub mod Strokes
+pub mod Between
+pub mod Built
