@@ -5,3 +5,5 @@ pub mod Degree
 pub mod Count
 pub mod Ways
 pub mod Reach
+pub mod Handshake
+pub mod Occurs

@@ -3,3 +3,4 @@ pub mod Distance
 pub mod Retrace
 pub mod Pairing
 pub mod Repair
+pub mod Pairs
