@@ -88,3 +88,71 @@ closer-places n (between i' j' d') i j d h k p = go (ltb d d')
     go : (t : Bool) → Places n (elim t as (λ (x : Bool). Closest) [ true ↦ between i j d | false ↦ between i' j' d' ])
     go true = (h, k)
     go false = p
+
+to-places : (n : ℕ) (p : Point) (i : ℕ) (qs : List Point) (j : ℕ) (best : Closest) → i < j → j + length qs ≤ n → Places n best → Places n (closestTo p i qs j best)
+unfolding closestTo
+to-places n p i [] j best h k b = b
+to-places n p i (q ∷ qs) j best h k b = to-places n p i qs (suc j) _ (omega arith) (omega arith) (closer-places n best i j (squared p q) h (omega arith) b)
+
+from-places : (n : ℕ) (ps : List Point) (i : ℕ) (best : Closest) → i + length ps ≤ n → Places n best → Places n (closest ps i best)
+unfolding closest
+from-places n [] i best k b = b
+from-places n (p ∷ ps) i best k b = from-places n ps (suc i) _ (omega arith) (to-places n p i ps (suc i) best (omega arith) (omega arith) b)
+
+-- of two points or more some two are the closest
+pub closest-places : (ps : List Point) → 2 ≤ length ps → Places (length ps) (closest ps 0 nothing)
+unfolding closest closestTo closer
+closest-places [] h = absurd (omega arith)
+closest-places (p ∷ []) h = absurd (omega arith)
+closest-places (p ∷ q ∷ ps) h =
+    from-places _ (q ∷ ps) 1 _ (omega arith) (to-places _ p 0 ps 2 (between 0 1 (squared p q)) (omega arith) (omega arith) (omega arith, omega arith))
+
+-- two nodes are left
+two-left : (vs : List ℕ) → length vs ≡ 2 → AllButTwo vs []
+unfolding count ends
+two-left [] h = absurd (omega arith)
+two-left (x ∷ []) h = absurd (omega arith)
+two-left (x ∷ y ∷ []) h = record { x = x; y = y; counts = λ v. omega arith }
+two-left (x ∷ y ∷ z ∷ vs) h = absurd (omega arith)
+
+-- a pair goes, the rest is paired
+one-more : (vs : List ℕ) (i j : ℕ) (ps : List Pair) → i < j → j < length vs
+    → AllButTwo (swapRemove (swapRemove vs j) i) ps → AllButTwo vs (pair (getD vs i 0) (getD vs j 0) ∷ ps)
+unfolding count ends
+one-more vs i j ps h k r = record {
+  x = r .x;
+  y = r .y;
+  counts = λ v. omega (
+    arith,
+    r .counts v,
+    swap-count v vs j k,
+    swap-count v (swapRemove vs j) i (rw swap-length (omega arith)),
+    ap (λ (u : ℕ). hit u v) (swap-before vs i j h k),
+  );
+}
+
+-- for k at least the number of nodes
+pub greedy-pairs : (k : ℕ) (ns : List Point) (vs : List ℕ) → length vs ≤ k → 2 ≤ length vs → length vs % 2 ≡ 0 → AllButTwo vs (greedyPairs k ns vs)
+unfolding greedyPairs
+greedy-pairs zero ns vs h l e = absurd (omega arith)
+greedy-pairs (suc k) ns vs h l e =
+    go (ltb 2 (length vs)) refl (closest (map (λ (v : ℕ). getD ns v noPoint) vs) 0 nothing) places (greedy-pairs k ns)
+  where
+    places : Places (length vs) (closest (map (λ (v : ℕ). getD ns v noPoint) vs) 0 nothing)
+    places = rw length-map at (closest-places (map (λ (v : ℕ). getD ns v noPoint) vs) (rw length-map l))
+
+    go : (t : Bool) → ltb 2 (length vs) ≡ t → (c : Closest) → Places (length vs) c
+        → ((ws : List ℕ) → length ws ≤ k → 2 ≤ length ws → length ws % 2 ≡ 0 → AllButTwo ws (greedyPairs k ns ws))
+        → AllButTwo vs (elim t as (λ (_ : Bool). List Pair) [
+          | false ↦ []
+          | true ↦ elim c as (λ (_ : Closest). List Pair) [
+            | nothing ↦ []
+            | between i j d ↦ pair (getD vs i 0) (getD vs j 0) ∷ greedyPairs k ns (swapRemove (swapRemove vs j) i)
+          ]
+        ])
+    go false b c p r = two-left vs (omega (arith, ltb-false 2 (length vs) b))
+    go true b nothing p r = absurd p
+    go true b (between i j d) p r =
+        let m : 2 < length vs = ltb-true 2 (length vs) b in
+        let n : length (swapRemove (swapRemove vs j) i) ≡ length vs - 2 = omega (arith, swap-length (swapRemove vs j) i, swap-length vs j) in
+        one-more vs i j _ (p .0) (p .1) (r _ (omega arith) (omega arith) (omega arith))
