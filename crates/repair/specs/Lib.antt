@@ -4,3 +4,4 @@ pub mod Retrace
 pub mod Pairing
 pub mod Repair
 pub mod Pairs
+pub mod Matched
