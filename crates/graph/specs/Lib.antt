@@ -7,3 +7,4 @@ pub mod Ways
 pub mod Reach
 pub mod Handshake
 pub mod Occurs
+pub mod Samples

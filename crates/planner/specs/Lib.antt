@@ -2,3 +2,4 @@
 pub mod Plan
 pub mod Words
 pub mod Demand3
+pub mod Samples

@@ -5,3 +5,4 @@ pub mod Pairing
 pub mod Repair
 pub mod Pairs
 pub mod Matched
+pub mod Samples

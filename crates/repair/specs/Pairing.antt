@@ -3,7 +3,7 @@ use Prim.Native.Nat.{ℕ, zero, suc, _-_}
 use mathlib.Core.List.{List, [], _∷_, map}
 use mathlib.Core.Bool.{Bool, true, false}
 use lib.ListN.{length, getD, take, set}
-use lib.Dec.{eqb, ltb}
+use lib.Dec.{eqb, leb, ltb}
 use lib.Ieee.{Float, binary64, add, lt}
 use Rattle.drawing.specs.Drawing.{Point}
 use Rattle.graph.specs.Chain.{squared}
@@ -39,6 +39,11 @@ unfoldable pub closest : List Point → ℕ → Closest → Closest
 unfolding closestTo
 closest [] i best = best
 closest (p ∷ ps) i best = closest ps (suc i) (closestTo p i ps (suc i) best)
+
+-- the list without the first v in it, the others in order
+unfoldable pub without : ℕ → List ℕ → List ℕ
+without v [] = []
+without v (u ∷ us) = elim (eqb u v) [ true ↦ us | false ↦ u ∷ without v us ]
 
 -- the last element takes the place of the one at i
 unfoldable pub swapRemove : List ℕ → ℕ → List ℕ
@@ -83,10 +88,6 @@ cheaper (chosen b) m = elim (lt (m .cost) (b .cost)) [ true ↦ chosen m | false
 abbrev pub choiceOf : Choice → Matching
 choiceOf none = matching zeroLength []
 choiceOf (chosen m) = m
-
-unfoldable pub without : ℕ → List ℕ → List ℕ
-without v [] = []
-without v (u ∷ us) = elim (eqb u v) [ true ↦ us | false ↦ u ∷ without v us ]
 
 -- u paired with each candidate in turn, the others of vs matched by `others`; `from` are the distances from u
 unfoldable pub partner : (List ℕ → Matching) → (ℕ → Float) → ℕ → List ℕ → List ℕ → Choice → Choice
