@@ -4,6 +4,8 @@ pub mod Graph
 pub mod Degree
 pub mod Count
 pub mod Ways
+pub mod Sums
+pub mod EdgesAt
 pub mod Reach
 pub mod Handshake
 pub mod Occurs
