@@ -5,4 +5,6 @@ pub mod Pairing
 pub mod Repair
 pub mod Pairs
 pub mod Matched
+pub mod Copied
+pub mod Repaired
 pub mod Samples

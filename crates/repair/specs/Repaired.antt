@@ -1,0 +1,1 @@
+-- What repair leaves: the graph with copies along its retraces, and none or two odd nodes.
