@@ -51,7 +51,7 @@ sum-hit u (suc n) v h k = go (hit-cases u v) (λ l. sum-hit u n (suc v) l (omega
     go (inl p) r = omega (arith, sum-miss u n (suc v) (omega arith))
     go (inr p) r = omega (arith, r (omega arith))
 
-sum-none : (n v : ℕ) → sumFrom (λ (u : ℕ). 0) n v ≡ 0
+pub sum-none : (n v : ℕ) → sumFrom (λ (u : ℕ). 0) n v ≡ 0
 unfolding sumFrom
 sum-none zero v = refl
 sum-none (suc n) v = omega (arith, sum-none n (suc v))

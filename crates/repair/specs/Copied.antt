@@ -50,7 +50,7 @@ pub record Copied (n : ℕ) (es fs : List Edge) (ways : List (List ℕ)) : Type 
   pub ways-inside : All (All (λ (v : ℕ). v < n)) ways
   pub most : (length fs ≤ mostEdges) ⊎ (fs ≡ es)
 
-nothing-copied : (n : ℕ) (es : List Edge) → Inside n es → Copied n es es []
+pub nothing-copied : (n : ℕ) (es : List Edge) → Inside n es → Copied n es es []
 unfolding sumOver
 nothing-copied n es h = record {
   joining-is = λ u v. omega arith;
@@ -96,10 +96,10 @@ record Applies (n : ℕ) (p : Pair) (ps : List Pair) (r r' : Repair) : Type 0 wh
   fits : length (after path r .edges) ≤ mostEdges
   rest : applyMatching n ps (after path r) ≡ repaired r'
 
-never : {A : Type 0} (k : ℕ) (r : Repair) → stopped k ≡ repaired r → A
+pub never : {A : Type 0} (k : ℕ) (r : Repair) → stopped k ≡ repaired r → A
 never k r e = let z : _≡_ {A = ℕ} 0 1 = cc in absurd (omega arith)
 
-same-repair : (r r' : Repair) → repaired r ≡ repaired r' → r ≡ r'
+pub same-repair : (r r' : Repair) → repaired r ≡ repaired r' → r ≡ r'
 same-repair r r' e = cc
 
 applies : (n : ℕ) (p : Pair) (ps : List Pair) (r r' : Repair) → applyMatching n (p ∷ ps) r ≡ repaired r' → Applies n p ps r r'
