@@ -77,6 +77,9 @@ both (x ∷ []) h v = absurd (omega arith)
 both (x ∷ y ∷ []) h v = refl
 both (x ∷ y ∷ z ∷ vs) h v = absurd (omega arith)
 
+differ : {b : Bool} → b ≡ true → b ≡ false → ⊥
+differ p q = let z : _≡_ {A = ℕ} 0 1 = cc in omega arith
+
 module _ (retrace : Retraces) where
   pub record Closed (n : ℕ) (es : List Edge) (r : Repair) : Type 0 where
     pub copied : Copied n es (r .edges) (r .retraces)
@@ -110,3 +113,69 @@ module _ (retrace : Retraces) where
           let two = both odd (eqb-true (length odd) 2 t) in
           let b = applied retrace n es last start d a (λ v h. odd-below n (r .edges) v (omega (arith, two v))) k in
           subst (Closed n es) (same-repair _ c e) (record { copied = b .copied; none-odd = none-remain n (r .edges) (d .edges) last (b .flips) two })
+
+  -- ---- the whole repair
+
+  pub record Repaired (g : Graph) (s : Settings) (r : Repair) : Type 0 where
+    pub copied : Copied (length (g .nodes)) (g .edges) (r .edges) (r .retraces)
+    -- closing, or where no node was odd, none is left odd
+    pub none-left : (closing s ≡ true) ⊎ (oddNodes (length (g .nodes)) (g .edges) ≡ []) → oddNodes (length (g .nodes)) (r .edges) ≡ []
+    -- otherwise two are
+    pub two-left : closing s ≡ false → (oddNodes (length (g .nodes)) (g .edges) ≡ [] → ⊥)
+        → (u v : ℕ) × (u < v) × (oddNodes (length (g .nodes)) (r .edges) ≡ u ∷ v ∷ [])
+
+  module _ (g : Graph) (s : Settings) where
+    open-ended : closing s ≡ false → (r : Repair) → Copied (length (g .nodes)) (g .edges) (r .edges) (r .retraces) → Left (length (g .nodes)) (g .edges) (r .edges) → Repaired g s r
+    open-ended f r k (inl p) = record { copied = k; none-left = λ _. p .1; two-left = λ _ q. absurd (q (p .0)) }
+    open-ended f r k (inr p) = record {
+      copied = k;
+      none-left = elim [ inl t ↦ absurd (differ t f) | inr q ↦ absurd (p .0 q) ];
+      two-left = λ _ _. two-odd (length (g .nodes)) (r .edges) (p .1);
+    }
+
+    ended : (x : Repairing) (r : Repair) → ((d : Repair) → x ≡ repaired d → Copied (length (g .nodes)) (g .edges) (d .edges) (d .retraces) × Left (length (g .nodes)) (g .edges) (d .edges))
+        → closeIf (closing s) (length (g .nodes)) x ≡ repaired r → Repaired g s r
+    unfolding closeIf
+    ended x r h e = go (closing s) refl x h e
+      where
+        go : (b : Bool) → closing s ≡ b → (x : Repairing) → ((d : Repair) → x ≡ repaired d → Copied (length (g .nodes)) (g .edges) (d .edges) (d .retraces) × Left (length (g .nodes)) (g .edges) (d .edges))
+            → closeIf b (length (g .nodes)) x ≡ repaired r → Repaired g s r
+        go b q (stopped i) h e = never i r e
+        go false q (repaired d) h e = subst (Repaired g s) (same-repair d r e) (open-ended q d (h d refl .0) (h d refl .1))
+        go true q (repaired d) h e =
+            let c = closed (length (g .nodes)) (g .edges) d r (h d refl .0) (h d refl .1) e in
+            record { copied = c .copied; none-left = λ _. c .none-odd; two-left = λ f _. absurd (differ q f) }
+
+    pub fixed : Inside (length (g .nodes)) (g .edges) → (r : Repair) → fixParity g s ≡ repaired r → Repaired g s r
+    unfolding fixParity
+    fixed h r e = go (leb (length odd) 2) refl e
+      where
+        n : ℕ
+        n = length (g .nodes)
+
+        odd : List ℕ
+        odd = oddNodes n (g .edges)
+
+        even : length odd % 2 ≡ 0
+        even = handshake n (g .edges) h
+
+        few : (vs : List ℕ) → odd ≡ vs → length vs ≤ 2 → Left n (g .edges) (g .edges)
+        few [] q l = inl (q, q)
+        few (u ∷ []) q l = absurd (omega (arith, ap length q, even))
+        few (u ∷ v ∷ []) q l = inr (λ z. omega (arith, ap length z, ap length q), ap length q)
+        few (u ∷ v ∷ w ∷ vs) q l = absurd (omega arith)
+
+        go : (t : Bool) → leb (length odd) 2 ≡ t
+            → elim t as (λ (_ : Bool). Repairing) [
+              | true ↦ closeIf (closing s) n (repaired (drawn g))
+              | false ↦ closeIf (closing s) n (applyMatching n (pairsOf g s odd) (drawn g))
+            ] ≡ repaired r → Repaired g s r
+        go true t e = ended (repaired (drawn g)) r (λ d q. subst (λ (x : Repair). Copied n (g .edges) (x .edges) (x .retraces) × Left n (g .edges) (x .edges)) (same-repair _ d q) (nothing-copied n (g .edges) h, few odd refl (leb-true (length odd) 2 t))) e
+        go false t e = ended (applyMatching n (pairsOf g s odd) (drawn g)) r many e
+          where
+            many : (d : Repair) → applyMatching n (pairsOf g s odd) (drawn g) ≡ repaired d → Copied n (g .edges) (d .edges) (d .retraces) × Left n (g .edges) (d .edges)
+            many d q =
+                let l = leb-false (length odd) 2 t in
+                let a = pairs-of g s odd l even in
+                let b = applied retrace n (g .edges) (pairsOf g s odd) (drawn g) d q (λ v k. odd-below n (g .edges) v (omega (arith, a .counts v))) (nothing-copied n (g .edges) h) in
+                (b .copied, inr (λ z. omega (arith, ap length z), two-remain n (g .edges) (d .edges) (pairsOf g s odd) (b .flips) a))
