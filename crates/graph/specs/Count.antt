@@ -22,6 +22,11 @@ unfolding stepSum
 lineSum w [] = 0
 lineSum w (x ∷ xs) = stepSum w x xs
 
+-- the last of the line that goes on from x
+unfoldable pub lastFrom : {A : Type 0} → A → List A → A
+lastFrom x [] = x
+lastFrom x (y ∷ ys) = lastFrom y ys
+
 -- 1 where a and b are u and v, in either order
 abbrev pub joint : ℕ → ℕ → ℕ → ℕ → ℕ
 joint u v a b = one ((eqb a u && eqb b v) || (eqb a v && eqb b u))

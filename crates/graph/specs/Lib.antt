@@ -6,6 +6,8 @@ pub mod Count
 pub mod Ways
 pub mod Sums
 pub mod EdgesAt
+pub mod Odd
+pub mod Connected
 pub mod Reach
 pub mod Handshake
 pub mod Occurs

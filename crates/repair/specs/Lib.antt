@@ -1,6 +1,11 @@
 -- Which odd nodes are paired, and which way each retrace goes.
 pub mod Distance
+pub mod Cost
+pub mod Relax
+pub mod Nearest
+pub mod Least
 pub mod Retrace
+pub mod Along
 pub mod Pairing
 pub mod Repair
 pub mod Pairs

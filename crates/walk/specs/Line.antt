@@ -8,6 +8,7 @@ use Rattle.center.specs.Center.{fromCenter, better}
 use Rattle.drawing.specs.Drawing.{Point, Settings, inside}
 use Rattle.graph.specs.Graph.{Edge, edge}
 use Rattle.graph.specs.Degree.{degree, oddNodes, oddFrom}
+use Rattle.graph.specs.Count.{lastFrom}
 use Rattle.repair.specs.Distance.{zeroLength}
 use Rattle.walk.specs.Walk.{By, start, Entry, circuit}
 
@@ -78,12 +79,11 @@ pub data EndPoints : Type 0 where
   ends : Point → Point → EndPoints
   empty : EndPoints
 
-unfoldable pub lastOf : Point → List Point → Point
-lastOf p [] = p
-lastOf p (q ∷ qs) = lastOf q qs
+abbrev pub lastOf : Point → List Point → Point
+lastOf p ps = lastFrom p ps
 
 unfoldable pub endPoints : List Point → EndPoints
-unfolding lastOf
+unfolding lastFrom
 endPoints [] = empty
 endPoints (p ∷ ps) = ends p (lastOf p ps)
 
