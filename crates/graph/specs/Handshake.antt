@@ -1,17 +1,17 @@
 -- The number of odd nodes is even: every edge has two ends.
 use Prim.Native.Nat.{ℕ, zero, suc, _+_, _%_, _≤_, _<_}
-use native.Mathlib.Nat.{not-suc-le-zero}
 use native.Mathlib.Omega.{arith}
-use mathlib.Core.Path.{_≡_, refl, ap, ap₂, _∙_}
+use mathlib.Core.Path.{_≡_, refl, ap, ap₂}
 use mathlib.Core.Logic.{_⊎_, inl, inr}
 use mathlib.Core.List.{List, [], _∷_}
 use mathlib.Core.Bool.{Bool, true, false}
 use lib.Dec.{eqb}
-use borrow.Author.Tests.{eqb-true, eqb-false, eq-eqb, ne-eqb}
+use borrow.Author.Tests.{eqb-true, eqb-false}
 use lib.ListN.{length}
 use Rattle.graph.specs.Graph.{Edge}
 use Rattle.graph.specs.Degree.{one, hit, degree, isOdd, oddFrom, oddNodes}
 use Rattle.graph.specs.Ways.{In, Inside}
+use Rattle.graph.specs.Sums.{hit-other}
 
 -- u is v and hits it once, or is another and does not
 pub hit-cases : (u v : ℕ) → ((u ≡ v) × (hit u v ≡ 1)) ⊎ ((u ≡ v → ⊥) × (hit u v ≡ 0))
@@ -40,7 +40,7 @@ sum-same f g (suc n) v h = ap₂ (λ (a b : ℕ). a + b) (h v (omega arith) (ome
 sum-miss : (u n v : ℕ) → u < v → sumFrom (hit u) n v ≡ 0
 unfolding sumFrom
 sum-miss u zero v h = refl
-sum-miss u (suc n) v h = omega (arith, ap one (ne-eqb u v (omega arith)), sum-miss u n (suc v) (omega arith))
+sum-miss u (suc n) v h = omega (arith, hit-other u v (omega arith), sum-miss u n (suc v) (omega arith))
 
 pub sum-hit : (u n v : ℕ) → v ≤ u → u < v + n → sumFrom (hit u) n v ≡ 1
 unfolding sumFrom

@@ -5,10 +5,10 @@ use mathlib.Core.Path.{_≡_, refl, ap}
 use mathlib.Core.Logic.{_⊎_, inl, inr}
 use mathlib.Core.List.{List, [], _∷_}
 use lib.ListN.{length}
-use borrow.Author.Tests.{ne-eqb}
 use Rattle.graph.specs.Graph.{Edge}
-use Rattle.graph.specs.Degree.{one, hit, degree, oddFrom, oddNodes}
-use Rattle.graph.specs.Ways.{All}
+use Rattle.graph.specs.Degree.{hit, degree, oddFrom, oddNodes}
+use Rattle.graph.specs.Sums.{hit-other}
+use Rattle.graph.specs.Odd.{oddNodes-ascends}
 use Rattle.graph.specs.Handshake.{hit-cases, OddStep, odd-step}
 
 unfoldable pub count : ℕ → List ℕ → ℕ
@@ -22,7 +22,7 @@ count-before es zero v w h = refl
 count-before es (suc n) v w h = go (odd-step es n w) (count-before es n v (suc w) (omega arith))
   where
     go : OddStep es n w → count v (oddFrom es n (suc w)) ≡ 0 → count v (oddFrom es (suc n) w) ≡ 0
-    go (inl p) r = omega (arith, ap (count v) (p .1), ap one (ne-eqb w v (omega arith)))
+    go (inl p) r = omega (arith, ap (count v) (p .1), hit-other w v (omega arith))
     go (inr p) r = omega (arith, ap (count v) (p .1))
 
 count-from : (es : List Edge) (n v w : ℕ) → w ≤ v → v < w + n → count v (oddFrom es n w) ≡ degree es v % 2
@@ -48,27 +48,8 @@ count-past es zero v w h = refl
 count-past es (suc n) v w h = go (odd-step es n w) (count-past es n v (suc w) (omega arith))
   where
     go : OddStep es n w → count v (oddFrom es n (suc w)) ≡ 0 → count v (oddFrom es (suc n) w) ≡ 0
-    go (inl p) r = omega (arith, ap (count v) (p .1), ap one (ne-eqb w v (omega arith)))
+    go (inl p) r = omega (arith, ap (count v) (p .1), hit-other w v (omega arith))
     go (inr p) r = omega (arith, ap (count v) (p .1))
-
--- they stand in rising order
-first-from : (es : List Edge) (n w u : ℕ) (us : List ℕ) → oddFrom es n w ≡ u ∷ us → w ≤ u
-unfolding oddFrom
-first-from es zero w u us e = absurd (omega (arith, ap length e))
-first-from es (suc n) w u us e = go (odd-step es n w) (first-from es n (suc w) u us)
-  where
-    go : OddStep es n w → (oddFrom es n (suc w) ≡ u ∷ us → suc w ≤ u) → w ≤ u
-    go (inl p) r = let q : w ≡ u = cc in omega arith
-    go (inr p) r = let q : suc w ≤ u = r (cc) in omega arith
-
-rising : (es : List Edge) (n w u v : ℕ) (us : List ℕ) → oddFrom es n w ≡ u ∷ v ∷ us → u < v
-unfolding oddFrom
-rising es zero w u v us e = absurd (omega (arith, ap length e))
-rising es (suc n) w u v us e = go (odd-step es n w) (rising es n (suc w) u v us)
-  where
-    go : OddStep es n w → (oddFrom es n (suc w) ≡ u ∷ v ∷ us → u < v) → u < v
-    go (inl p) r = let q : w ≡ u = cc in let l : suc w ≤ v = first-from es n (suc w) v us (cc) in omega arith
-    go (inr p) r = r (cc)
 
 pub two-odd : (n : ℕ) (es : List Edge) → length (oddNodes n es) ≡ 2 → (u v : ℕ) × (u < v) × (oddNodes n es ≡ u ∷ v ∷ [])
 two-odd n es h = go (oddNodes n es) refl h
@@ -76,5 +57,5 @@ two-odd n es h = go (oddNodes n es) refl h
     go : (us : List ℕ) → oddNodes n es ≡ us → length us ≡ 2 → (u v : ℕ) × (u < v) × (oddNodes n es ≡ u ∷ v ∷ [])
     go [] e l = absurd (omega arith)
     go (u ∷ []) e l = absurd (omega arith)
-    go (u ∷ v ∷ []) e l = (u, v, rising es n 0 u v [] e, e)
+    go (u ∷ v ∷ []) e l = (u, v, oddNodes-ascends n es u (v ∷ []) e v (inl refl), e)
     go (u ∷ v ∷ w ∷ us) e l = absurd (omega arith)

@@ -10,6 +10,6 @@ pub mod Pairing
 pub mod Repair
 pub mod Pairs
 pub mod Matched
-pub mod Copied
+pub mod Applied
 pub mod Repaired
 pub mod Samples

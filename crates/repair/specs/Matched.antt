@@ -8,8 +8,9 @@ use mathlib.Core.Bool.{Bool, true, false}
 use lib.ListN.{length}
 use lib.Dec.{eqb}
 use lib.Ieee.{Float, lt}
-use borrow.Author.Tests.{eqb-true, eq-eqb}
+use borrow.Author.Tests.{eqb-true}
 use Rattle.graph.specs.Degree.{one, hit}
+use Rattle.graph.specs.Sums.{hit-same}
 use Rattle.graph.specs.Occurs.{count}
 use Rattle.repair.specs.Pairing.{Pair, pair, Matching, matching, Choice, none, chosen, cheaper, choiceOf, without, partner, matchAll, leaveWith, leaveTwo, optimalPairs}
 use Rattle.repair.specs.Pairs.{ends, AllButTwo}
@@ -49,7 +50,7 @@ without-length v (u ∷ us) h = go (without-step v u us) (λ l. without-length v
 -- the first of some elements of vs is one of vs
 stands : (c : ℕ) (cs vs : List ℕ) → ((v : ℕ) → count v (c ∷ cs) ≤ count v vs) → 0 < count c vs
 unfolding count
-stands c cs vs h = omega (arith, h c, ap one (eq-eqb c c refl))
+stands c cs vs h = omega (arith, h c, hit-same c)
 
 later : (c : ℕ) (cs vs : List ℕ) → ((v : ℕ) → count v (c ∷ cs) ≤ count v vs) → (v : ℕ) → count v cs ≤ count v vs
 unfolding count

@@ -22,7 +22,7 @@ use Rattle.repair.specs.Pairing.{Pair, pair, greedyPairs, optimalPairs}
 use Rattle.repair.specs.Repair.{Repair, Repairing, stopped, repaired, applyMatching, rows, distanceIn, pairsOf, close, closeIf, drawn, fixParity}
 use Rattle.repair.specs.Pairs.{ends, AllButTwo, greedy-pairs}
 use Rattle.repair.specs.Matched.{optimal-pairs}
-use Rattle.repair.specs.Copied.{Copied, nothing-copied, Applied, Retraces, applied, never, same-repair}
+use Rattle.repair.specs.Applied.{WithCopies, nothing-copied, Applied, Retraces, applied, never, same-repair}
 
 -- ---- parities before and after
 
@@ -82,10 +82,10 @@ differ p q = let z : _≡_ {A = ℕ} 0 1 = cc in omega arith
 
 module _ (retrace : Retraces) where
   pub record Closed (n : ℕ) (es : List Edge) (r : Repair) : Type 0 where
-    pub copied : Copied n es (r .edges) (r .retraces)
+    pub copied : WithCopies n es (r .edges) (r .retraces)
     pub none-odd : oddNodes n (r .edges) ≡ []
 
-  closed : (n : ℕ) (es : List Edge) (r c : Repair) → Copied n es (r .edges) (r .retraces) → Left n es (r .edges) → close n r ≡ repaired c → Closed n es c
+  closed : (n : ℕ) (es : List Edge) (r c : Repair) → WithCopies n es (r .edges) (r .retraces) → Left n es (r .edges) → close n r ≡ repaired c → Closed n es c
   unfolding close
   closed n es r c k l e = go (eqb (length odd) 2) refl (applyMatching n last start) refl e
     where
@@ -117,7 +117,7 @@ module _ (retrace : Retraces) where
   -- ---- the whole repair
 
   pub record Repaired (g : Graph) (s : Settings) (r : Repair) : Type 0 where
-    pub copied : Copied (length (g .nodes)) (g .edges) (r .edges) (r .retraces)
+    pub copied : WithCopies (length (g .nodes)) (g .edges) (r .edges) (r .retraces)
     -- closing, or where no node was odd, none is left odd
     pub none-left : (closing s ≡ true) ⊎ (oddNodes (length (g .nodes)) (g .edges) ≡ []) → oddNodes (length (g .nodes)) (r .edges) ≡ []
     -- otherwise two are
@@ -125,7 +125,7 @@ module _ (retrace : Retraces) where
         → (u v : ℕ) × (u < v) × (oddNodes (length (g .nodes)) (r .edges) ≡ u ∷ v ∷ [])
 
   module _ (g : Graph) (s : Settings) where
-    open-ended : closing s ≡ false → (r : Repair) → Copied (length (g .nodes)) (g .edges) (r .edges) (r .retraces) → Left (length (g .nodes)) (g .edges) (r .edges) → Repaired g s r
+    open-ended : closing s ≡ false → (r : Repair) → WithCopies (length (g .nodes)) (g .edges) (r .edges) (r .retraces) → Left (length (g .nodes)) (g .edges) (r .edges) → Repaired g s r
     open-ended f r k (inl p) = record { copied = k; none-left = λ _. p .1; two-left = λ _ q. absurd (q (p .0)) }
     open-ended f r k (inr p) = record {
       copied = k;
@@ -133,12 +133,12 @@ module _ (retrace : Retraces) where
       two-left = λ _ _. two-odd (length (g .nodes)) (r .edges) (p .1);
     }
 
-    ended : (x : Repairing) (r : Repair) → ((d : Repair) → x ≡ repaired d → Copied (length (g .nodes)) (g .edges) (d .edges) (d .retraces) × Left (length (g .nodes)) (g .edges) (d .edges))
+    ended : (x : Repairing) (r : Repair) → ((d : Repair) → x ≡ repaired d → WithCopies (length (g .nodes)) (g .edges) (d .edges) (d .retraces) × Left (length (g .nodes)) (g .edges) (d .edges))
         → closeIf (closing s) (length (g .nodes)) x ≡ repaired r → Repaired g s r
     unfolding closeIf
     ended x r h e = go (closing s) refl x h e
       where
-        go : (b : Bool) → closing s ≡ b → (x : Repairing) → ((d : Repair) → x ≡ repaired d → Copied (length (g .nodes)) (g .edges) (d .edges) (d .retraces) × Left (length (g .nodes)) (g .edges) (d .edges))
+        go : (b : Bool) → closing s ≡ b → (x : Repairing) → ((d : Repair) → x ≡ repaired d → WithCopies (length (g .nodes)) (g .edges) (d .edges) (d .retraces) × Left (length (g .nodes)) (g .edges) (d .edges))
             → closeIf b (length (g .nodes)) x ≡ repaired r → Repaired g s r
         go b q (stopped i) h e = never i r e
         go false q (repaired d) h e = subst (Repaired g s) (same-repair d r e) (open-ended q d (h d refl .0) (h d refl .1))
@@ -170,10 +170,10 @@ module _ (retrace : Retraces) where
               | true ↦ closeIf (closing s) n (repaired (drawn g))
               | false ↦ closeIf (closing s) n (applyMatching n (pairsOf g s odd) (drawn g))
             ] ≡ repaired r → Repaired g s r
-        go true t e = ended (repaired (drawn g)) r (λ d q. subst (λ (x : Repair). Copied n (g .edges) (x .edges) (x .retraces) × Left n (g .edges) (x .edges)) (same-repair _ d q) (nothing-copied n (g .edges) h, few odd refl (leb-true (length odd) 2 t))) e
+        go true t e = ended (repaired (drawn g)) r (λ d q. subst (λ (x : Repair). WithCopies n (g .edges) (x .edges) (x .retraces) × Left n (g .edges) (x .edges)) (same-repair _ d q) (nothing-copied n (g .edges) h, few odd refl (leb-true (length odd) 2 t))) e
         go false t e = ended (applyMatching n (pairsOf g s odd) (drawn g)) r many e
           where
-            many : (d : Repair) → applyMatching n (pairsOf g s odd) (drawn g) ≡ repaired d → Copied n (g .edges) (d .edges) (d .retraces) × Left n (g .edges) (d .edges)
+            many : (d : Repair) → applyMatching n (pairsOf g s odd) (drawn g) ≡ repaired d → WithCopies n (g .edges) (d .edges) (d .retraces) × Left n (g .edges) (d .edges)
             many d q =
                 let l = leb-false (length odd) 2 t in
                 let a = pairs-of g s odd l even in

@@ -41,7 +41,7 @@ pub record Retraced (n : ℕ) (es : List Edge) (s t : ℕ) (path : List ℕ) (fs
   pub way-inside : All (λ (v : ℕ). v < n) path
 
 -- The edges fs are es with a copy along each step of each of `ways`.
-pub record Copied (n : ℕ) (es fs : List Edge) (ways : List (List ℕ)) : Type 0 where
+pub record WithCopies (n : ℕ) (es fs : List Edge) (ways : List (List ℕ)) : Type 0 where
   pub joining-is : (u v : ℕ) → joining u v fs ≡ joining u v es + sumOver (λ (way : List ℕ). lineSum (joint u v) way) ways
   pub degree-is : (v : ℕ) → degree fs v ≡ degree es v + sumOver (λ (way : List ℕ). lineSum (meeting v) way) ways
   pub on-drawn : (u v : ℕ) → Joined fs u v → Joined es u v
@@ -50,7 +50,7 @@ pub record Copied (n : ℕ) (es fs : List Edge) (ways : List (List ℕ)) : Type 
   pub ways-inside : All (All (λ (v : ℕ). v < n)) ways
   pub most : (length fs ≤ mostEdges) ⊎ (fs ≡ es)
 
-pub nothing-copied : (n : ℕ) (es : List Edge) → Inside n es → Copied n es es []
+pub nothing-copied : (n : ℕ) (es : List Edge) → Inside n es → WithCopies n es es []
 unfolding sumOver
 nothing-copied n es h = record {
   joining-is = λ u v. omega arith;
@@ -71,7 +71,7 @@ unfolding sumOver
 sum-snoc g xs y = omega (arith, sumOver-append g xs (y ∷ []))
 
 one-more : (n : ℕ) (es fs gs : List Edge) (ways : List (List ℕ)) (s t : ℕ) (path : List ℕ)
-    → Copied n es fs ways → Retraced n fs s t path gs → length gs ≤ mostEdges → Copied n es gs (ways ++ (path ∷ []))
+    → WithCopies n es fs ways → Retraced n fs s t path gs → length gs ≤ mostEdges → WithCopies n es gs (ways ++ (path ∷ []))
 one-more n es fs gs ways s t path c r h = record {
   joining-is = λ u v. omega (arith, c .joining-is u v, r .joining-is u v, sum-snoc (λ (way : List ℕ). lineSum (joint u v) way) ways path);
   degree-is = λ v. omega (arith, c .degree-is v, r .degree-is v, sum-snoc (λ (way : List ℕ). lineSum (meeting v) way) ways path);
@@ -121,7 +121,7 @@ applies n p ps r r' e = go (shortestPath n (r .edges) (p .from) (p .to)) refl e
 
 -- r' is r after the retraces of the pairs ps, which change the parity of their two nodes only
 pub record Applied (n : ℕ) (es : List Edge) (ps : List Pair) (r r' : Repair) : Type 0 where
-  pub copied : Copied n es (r' .edges) (r' .retraces)
+  pub copied : WithCopies n es (r' .edges) (r' .retraces)
   pub flips : (v : ℕ) → (degree (r' .edges) v + degree (r .edges) v + count v (ends ps)) % 2 ≡ 0
 
 -- every retrace that is found is laid as said
@@ -131,7 +131,7 @@ Retraces = (n : ℕ) (es : List Edge) (s t : ℕ) (path : List ℕ) (x : Float) 
 
 module _ (retrace : Retraces) where
   pub applied : (n : ℕ) (es : List Edge) (ps : List Pair) (r r' : Repair) → applyMatching n ps r ≡ repaired r' → ((v : ℕ) → 0 < count v (ends ps) → v < n)
-      → Copied n es (r .edges) (r .retraces) → Applied n es ps r r'
+      → WithCopies n es (r .edges) (r .retraces) → Applied n es ps r r'
   unfolding applyMatching count ends
   applied n es [] r r' e below c = subst (λ (x : Repair). Applied n es [] r x) (same-repair r r' e) (record { copied = c; flips = λ v. omega arith })
   applied n es (p ∷ ps) r r' e below c =
