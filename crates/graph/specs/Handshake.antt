@@ -10,7 +10,7 @@ use borrow.Author.Tests.{eqb-true, eqb-false}
 use lib.ListN.{length}
 use Rattle.graph.specs.Graph.{Edge}
 use Rattle.graph.specs.Degree.{one, hit, degree, isOdd, oddFrom, oddNodes}
-use Rattle.graph.specs.Ways.{In, Inside}
+use Rattle.graph.specs.Ways.{Inside}
 use Rattle.graph.specs.Sums.{hit-other}
 
 -- u is v and hits it once, or is another and does not

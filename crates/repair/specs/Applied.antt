@@ -1,30 +1,25 @@
 -- What repair leaves: the graph with copies along its retraces, and none or two odd nodes.
-use Prim.Native.Nat.{ℕ, zero, suc, _+_, _%_, _≤_, _<_}
-use native.Mathlib.Nat.{lt-of-not-le}
+use Prim.Native.Nat.{ℕ, _+_, _%_, _≤_, _<_}
 use native.Mathlib.Omega.{arith}
-use mathlib.Core.Path.{_≡_, refl, sym, ap, _∙_, subst}
+use mathlib.Core.Path.{_≡_, refl, subst}
 use mathlib.Core.Logic.{_⊎_, inl, inr}
 use mathlib.Core.List.{List, [], _∷_, _++_}
 use mathlib.Core.Bool.{Bool, true, false}
-use lib.ListN.{length, getD}
-use lib.Dec.{eqb, leb}
-use lib.Ieee.{Float, binary64, add}
-use borrow.Author.Tests.{leb-true, leb-false, eq-eqb, ne-eqb}
-use Rattle.drawing.specs.Drawing.{Settings, optimal, closing}
+use lib.ListN.{length}
+use lib.Dec.{leb}
+use lib.Ieee.{Float}
+use borrow.Author.Tests.{leb-true}
 use Rattle.drawing.specs.Limits.{mostEdges}
-use Rattle.graph.specs.Graph.{Edge, Graph}
-use Rattle.graph.specs.Degree.{one, hit, degree, oddFrom, oddNodes}
-use Rattle.graph.specs.Count.{sumOver, stepSum, lineSum, joint, joining}
-use Rattle.graph.specs.Ways.{In, All, Inside, Joined}
+use Rattle.graph.specs.Graph.{Edge}
+use Rattle.graph.specs.Degree.{hit, degree}
+use Rattle.graph.specs.Count.{sumOver, lineSum, joint, joining}
+use Rattle.graph.specs.Ways.{All, Inside, Joined}
 use Rattle.graph.specs.Sums.{hit-same, sumOver-append}
-use Rattle.graph.specs.Handshake.{handshake, sumFrom, sum-add, sum-same, sum-hit, length-odd}
-use Rattle.graph.specs.Occurs.{count, count-odd, count-past, two-odd}
-use Rattle.repair.specs.Distance.{zeroLength}
-use Rattle.repair.specs.Retrace.{Path, found, error, shortestPath, Laid, layPath}
-use Rattle.repair.specs.Pairing.{Pair, pair, greedyPairs, optimalPairs}
-use Rattle.repair.specs.Repair.{Repair, Repairing, stopped, repaired, applyMatching, rows, distanceIn, pairsOf, close, closeIf, drawn, fixParity}
-use Rattle.repair.specs.Pairs.{ends, AllButTwo, greedy-pairs}
-use Rattle.repair.specs.Matched.{optimal-pairs}
+use Rattle.graph.specs.Occurs.{count}
+use Rattle.repair.specs.Retrace.{Path, found, error, shortestPath, layPath}
+use Rattle.repair.specs.Pairing.{Pair}
+use Rattle.repair.specs.Repair.{Repair, stopped, repaired, applyMatching}
+use Rattle.repair.specs.Pairs.{ends}
 
 -- what a node of a way gives to its degree
 abbrev pub meeting : ℕ → ℕ → ℕ → ℕ
@@ -107,14 +102,14 @@ unfolding applyMatching
 applies n p ps r r' e = go (shortestPath n (r .edges) (p .from) (p .to)) refl e
   where
     fit : (path : List ℕ) (t : Bool) → shortestPath n (r .edges) (p .from) (p .to) ≡ found path → leb (length (after path r .edges)) mostEdges ≡ t
-        → elim t as (λ (_ : Bool). Repairing) [ false ↦ stopped 13 | true ↦ applyMatching n ps (after path r) ] ≡ repaired r' → Applies n p ps r r'
+        → elim t [ false ↦ stopped 13 | true ↦ applyMatching n ps (after path r) ] ≡ repaired r' → Applies n p ps r r'
     fit path false f t e = never 13 r' e
     fit path true f t e = record { path = path; isPath = f; fits = leb-true _ _ t; rest = e }
 
     go : (x : Path) → shortestPath n (r .edges) (p .from) (p .to) ≡ x
-        → elim x as (λ (_ : Path). Repairing) [
+        → elim x [
           | error ↦ stopped 12
-          | found path ↦ elim (leb (length (after path r .edges)) mostEdges) as (λ (_ : Bool). Repairing) [ false ↦ stopped 13 | true ↦ applyMatching n ps (after path r) ]
+          | found path ↦ elim (leb (length (after path r .edges)) mostEdges) [ false ↦ stopped 13 | true ↦ applyMatching n ps (after path r) ]
         ] ≡ repaired r' → Applies n p ps r r'
     go error f e = never 12 r' e
     go (found path) f e = fit path (leb (length (after path r .edges)) mostEdges) f refl e

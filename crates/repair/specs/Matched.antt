@@ -12,7 +12,7 @@ use borrow.Author.Tests.{eqb-true}
 use Rattle.graph.specs.Degree.{one, hit}
 use Rattle.graph.specs.Sums.{hit-same}
 use Rattle.graph.specs.Occurs.{count}
-use Rattle.repair.specs.Pairing.{Pair, pair, Matching, matching, Choice, none, chosen, cheaper, choiceOf, without, partner, matchAll, leaveWith, leaveTwo, optimalPairs}
+use Rattle.repair.specs.Pairing.{Pair, pair, Matching, Choice, none, chosen, cheaper, choiceOf, without, partner, matchAll, leaveWith, leaveTwo, optimalPairs}
 use Rattle.repair.specs.Pairs.{ends, AllButTwo}
 
 -- ---- a list without one of its elements
@@ -71,7 +71,7 @@ unfolding cheaper
 cheaper-is P none m h p = p
 cheaper-is P (chosen b) m h p = go (lt (m .cost) (b .cost))
   where
-    go : (t : Bool) → Chosen P (elim t as (λ (_ : Bool). Choice) [ true ↦ chosen m | false ↦ chosen b ])
+    go : (t : Bool) → Chosen P (elim t [ true ↦ chosen m | false ↦ chosen b ])
     go true = p
     go false = h
 

@@ -2,19 +2,17 @@
 use Prim.Native.Nat.{ℕ, zero, suc, _+_, _-_, _%_, _≤_, _<_}
 use native.Mathlib.Omega.{arith}
 use native.Mathlib.Nat.{le-of-suc-le-suc}
-use native.Mathlib.Numerals.{add-one}
 use native.Mathlib.Decide.{ℕ-discrete}
-use mathlib.Core.Path.{_≡_, refl, sym, ap, _∙_}
-use mathlib.Core.Logic.{_⊎_, inl, inr}
+use mathlib.Core.Path.{_≡_, refl, ap, _∙_}
 use mathlib.Core.List.{List, [], _∷_, map}
 use mathlib.Core.Bool.{Bool, true, false}
 use lib.ListN.{length, getD, take, set, length-take, length-set, length-map}
 use lib.Seq.{getD-set-same, getD-set-other, getD-take}
-use lib.Dec.{eqb, ltb}
-use borrow.Author.Tests.{ltb-true, ltb-false, eqb-true, eqb-false, lt-ltb}
+use lib.Dec.{ltb}
+use borrow.Author.Tests.{ltb-true, ltb-false}
 use Rattle.drawing.specs.Drawing.{Point}
 use Rattle.graph.specs.Chain.{squared}
-use Rattle.graph.specs.Degree.{one, hit}
+use Rattle.graph.specs.Degree.{hit}
 use Rattle.graph.specs.Occurs.{count}
 use Rattle.repair.specs.Pairing.{Pair, pair, Closest, nothing, between, closer, closestTo, closest, swapRemove, greedyPairs, noPoint}
 
@@ -85,7 +83,7 @@ unfolding closer
 closer-places n nothing i j d h k p = absurd p
 closer-places n (between i' j' d') i j d h k p = go (ltb d d')
   where
-    go : (t : Bool) → Places n (elim t as (λ (x : Bool). Closest) [ true ↦ between i j d | false ↦ between i' j' d' ])
+    go : (t : Bool) → Places n (elim t [ true ↦ between i j d | false ↦ between i' j' d' ])
     go true = (h, k)
     go false = p
 
@@ -143,9 +141,9 @@ greedy-pairs (suc k) ns vs h l e =
 
     go : (t : Bool) → ltb 2 (length vs) ≡ t → (c : Closest) → Places (length vs) c
         → ((ws : List ℕ) → length ws ≤ k → 2 ≤ length ws → length ws % 2 ≡ 0 → AllButTwo ws (greedyPairs k ns ws))
-        → AllButTwo vs (elim t as (λ (_ : Bool). List Pair) [
+        → AllButTwo vs (elim t [
           | false ↦ []
-          | true ↦ elim c as (λ (_ : Closest). List Pair) [
+          | true ↦ elim c [
             | nothing ↦ []
             | between i j d ↦ pair (getD vs i 0) (getD vs j 0) ∷ greedyPairs k ns (swapRemove (swapRemove vs j) i)
           ]

@@ -1,8 +1,8 @@
 -- What repair leaves: the graph with copies along its retraces, and none or two odd nodes.
-use Prim.Native.Nat.{ℕ, zero, suc, _+_, _%_, _≤_, _<_}
+use Prim.Native.Nat.{ℕ, _+_, _%_, _≤_, _<_}
 use native.Mathlib.Nat.{lt-of-not-le}
 use native.Mathlib.Omega.{arith}
-use mathlib.Core.Path.{_≡_, refl, sym, ap, _∙_, subst}
+use mathlib.Core.Path.{_≡_, refl, ap, _∙_, subst}
 use mathlib.Core.Logic.{_⊎_, inl, inr}
 use mathlib.Core.List.{List, [], _∷_}
 use mathlib.Core.Bool.{Bool, true, false}
@@ -15,14 +15,14 @@ use Rattle.graph.specs.Graph.{Edge, Graph}
 use Rattle.graph.specs.Degree.{hit, degree, oddNodes}
 use Rattle.graph.specs.Ways.{Inside}
 use Rattle.graph.specs.Sums.{hit-same}
-use Rattle.graph.specs.Handshake.{handshake, sumFrom, sum-add, sum-same, sum-none, sum-hit, length-odd}
+use Rattle.graph.specs.Handshake.{handshake, sum-add, sum-same, sum-none, sum-hit, length-odd}
 use Rattle.graph.specs.Occurs.{count, count-odd, count-past, two-odd}
 use Rattle.repair.specs.Distance.{zeroLength}
 use Rattle.repair.specs.Pairing.{Pair, pair, greedyPairs, optimalPairs}
 use Rattle.repair.specs.Repair.{Repair, Repairing, stopped, repaired, applyMatching, rows, distanceIn, pairsOf, close, closeIf, drawn, fixParity}
 use Rattle.repair.specs.Pairs.{ends, AllButTwo, greedy-pairs}
 use Rattle.repair.specs.Matched.{optimal-pairs}
-use Rattle.repair.specs.Applied.{WithCopies, nothing-copied, Applied, Retraces, applied, never, same-repair}
+use Rattle.repair.specs.Applied.{WithCopies, nothing-copied, Retraces, applied, never, same-repair}
 
 -- ---- parities before and after
 
@@ -56,7 +56,7 @@ pairs-of : (g : Graph) (s : Settings) (vs : List ℕ) → 2 < length vs → leng
 unfolding pairsOf
 pairs-of g s vs h e = go (optimal s)
   where
-    go : (t : Bool) → AllButTwo vs (elim t as (λ (_ : Bool). List Pair) [ true ↦ optimalPairs (distanceIn (rows (length (g .nodes)) (g .edges) vs)) vs | false ↦ greedyPairs (length vs) (g .nodes) vs ])
+    go : (t : Bool) → AllButTwo vs (elim t [ true ↦ optimalPairs (distanceIn (rows (length (g .nodes)) (g .edges) vs)) vs | false ↦ greedyPairs (length vs) (g .nodes) vs ])
     go true = optimal-pairs (distanceIn (rows (length (g .nodes)) (g .edges) vs)) vs (omega arith) e
     go false = greedy-pairs (length vs) (g .nodes) vs (omega arith) (omega arith) e
 
@@ -99,9 +99,9 @@ module _ (retrace : Retraces) where
       start = record { edges = r .edges; retraces = r .retraces; sum = zeroLength }
 
       go : (t : Bool) → eqb (length odd) 2 ≡ t → (x : Repairing) → applyMatching n last start ≡ x
-          → elim t as (λ (_ : Bool). Repairing) [
+          → elim t [
             | false ↦ repaired r
-            | true ↦ elim x as (λ (_ : Repairing). Repairing) [
+            | true ↦ elim x [
               | stopped k ↦ stopped k
               | repaired c ↦ repaired (record { edges = c .edges; retraces = c .retraces; sum = add binary64 (r .sum) (c .sum) })
             ]
@@ -166,7 +166,7 @@ module _ (retrace : Retraces) where
         few (u ∷ v ∷ w ∷ vs) q l = absurd (omega arith)
 
         go : (t : Bool) → leb (length odd) 2 ≡ t
-            → elim t as (λ (_ : Bool). Repairing) [
+            → elim t [
               | true ↦ closeIf (closing s) n (repaired (drawn g))
               | false ↦ closeIf (closing s) n (applyMatching n (pairsOf g s odd) (drawn g))
             ] ≡ repaired r → Repaired g s r
