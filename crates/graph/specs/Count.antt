@@ -1,8 +1,10 @@
--- Counting edges, and steps along a line of nodes.
+-- Counting edges, strokes, and steps along a line.
 use Prim.Native.Nat.{ℕ, zero, suc, _+_}
 use mathlib.Core.List.{List, [], _∷_}
 use mathlib.Core.Bool.{Bool, _&&_, _||_}
 use lib.Dec.{eqb}
+use Rattle.drawing.specs.Drawing.{Point, same}
+use Rattle.graph.specs.Chain.{Stroke}
 use Rattle.graph.specs.Graph.{Edge}
 use Rattle.graph.specs.Degree.{one}
 
@@ -34,3 +36,23 @@ joint u v a b = one ((eqb a u && eqb b v) || (eqb a v && eqb b u))
 -- how many edges join u and v
 abbrev pub joining : ℕ → ℕ → List Edge → ℕ
 joining u v es = sumOver (λ (e : Edge). joint u v (e .a) (e .b)) es
+
+-- ---- the same by points, in the words of document 01
+
+-- What goes from a to b lies between p and q when these are its ends, in either order.
+abbrev pub lies : Point → Point → Point → Point → ℕ
+lies p q a b = one ((same a p && same b q) || (same a q && same b p))
+
+-- A step is a point of a line with the next one.
+abbrev pub stepsBetween : Point → Point → List Point → ℕ
+stepsBetween p q line = lineSum (lies p q) line
+
+abbrev pub strokesBetween : Point → Point → List Stroke → ℕ
+strokesBetween p q ss = sumOver (λ (s : Stroke). lies p q (s .from) (s .to)) ss
+
+-- how often what goes from a to b has an end at p: once for each end that is there
+abbrev pub touches : Point → Point → Point → ℕ
+touches p a b = one (same a p) + one (same b p)
+
+abbrev pub strokesAt : Point → List Stroke → ℕ
+strokesAt p ss = sumOver (λ (s : Stroke). touches p (s .from) (s .to)) ss

@@ -7,7 +7,7 @@ use lib.Dec.{eqb, ltb}
 use lib.Ieee.{Float}
 use Rattle.length.specs.Root.{lengthOf, rootOver}
 use Rattle.drawing.specs.Drawing.{Point, same, Drawing}
-use Rattle.graph.specs.Chain.{Stroke, squared, piecesOf, linksOf, usesOf}
+use Rattle.graph.specs.Chain.{Stroke, squared, piecesOf, linksOf, strokesOf, usesOf}
 
 -- ---- nodes
 
@@ -18,6 +18,12 @@ find p (q ∷ qs) i = elim (same p q) [ true ↦ i | false ↦ find p qs (suc i)
 
 abbrev pub nodeOf : List Point → Point → ℕ
 nodeOf ns p = find p ns 0
+
+abbrev noPoint : Point
+noPoint = record { x = 0; y = 0 }
+
+abbrev pub pointAt : List Point → ℕ → Point
+pointAt ns v = getD ns v noPoint
 
 unfoldable pub getOrInsert : List Point → Point → List Point
 unfolding find
@@ -50,7 +56,7 @@ unfoldable pub buildGraph : Drawing → Graph
 unfolding firstUses usesOf piecesOf linksOf edgeOf
 buildGraph d =
     let ns = firstUses [] (usesOf d) in
-    record { nodes = ns; edges = map (edgeOf ns) (piecesOf d ++ linksOf d) }
+    record { nodes = ns; edges = map (edgeOf ns) (strokesOf d) }
 
 -- ---- a node's edges, in document 01's order: those with it as first end, newest first, then those with it as second end, newest first
 

@@ -12,3 +12,7 @@ pub mod Reach
 pub mod Handshake
 pub mod Occurs
 pub mod Samples
+pub mod Nodes
+pub mod Strokes
+pub mod Between
+pub mod Built

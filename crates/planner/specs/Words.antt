@@ -1,34 +1,23 @@
 -- The words of demand 3, as document 01 has them.
 use Prim.Native.Nat.{ℕ, _+_, _*_, _/_}
 use mathlib.Core.List.{List, [], _∷_, map}
-use mathlib.Core.Bool.{Bool, _&&_, _||_}
+use mathlib.Core.Bool.{Bool}
 use lib.ListN.{length, take, drop}
 use Rattle.drawing.specs.Bytes.{number}
-use Rattle.drawing.specs.Drawing.{Point, same}
+use Rattle.drawing.specs.Drawing.{Point}
 use Rattle.drawing.specs.Read.{points}
-use Rattle.graph.specs.Chain.{Stroke, piecesOf, linksOf}
-use Rattle.graph.specs.Graph.{Graph}
-use Rattle.graph.specs.Degree.{one, isOdd}
-use Rattle.graph.specs.Count.{sumOver, lineSum}
+use Rattle.graph.specs.Chain.{piecesOf, linksOf}
+use Rattle.graph.specs.Graph.{Graph, pointAt}
+use Rattle.graph.specs.Degree.{isOdd}
+use Rattle.graph.specs.Count.{sumOver, lineSum, touches, strokesAt}
+pub use Rattle.graph.specs.Count.{lies, stepsBetween, strokesBetween}
 use Rattle.repair.specs.Repair.{Repair}
-use Rattle.walk.specs.Line.{pointAt}
 use Rattle.planner.specs.Plan.{drawingIn, graphIn, repairIn, repairOr}
 
 -- The line written is the list of points in the kind 4 record at the front of the output.
 unfoldable pub lineWritten : List ℕ → List Point
 unfolding number points
 lineWritten output = points (number 4 output / 16) (drop 6 output)
-
--- What goes from a to b lies between p and q when these are its ends, in either order.
-abbrev pub lies : Point → Point → Point → Point → ℕ
-lies p q a b = one ((same a p && same b q) || (same a q && same b p))
-
--- A step is a point of a line with the next one.
-abbrev pub stepsBetween : Point → Point → List Point → ℕ
-stepsBetween p q line = lineSum (lies p q) line
-
-abbrev pub strokesBetween : Point → Point → List Stroke → ℕ
-strokesBetween p q ss = sumOver (λ (s : Stroke). lies p q (s .from) (s .to)) ss
 
 -- pieces and links, counted from the file
 unfoldable pub piecesBetween : Point → Point → List ℕ → ℕ
@@ -49,14 +38,10 @@ unfoldable pub copiesBetween : Point → Point → List ℕ → ℕ
 unfolding retracesIn sumOver lineSum
 copiesBetween p q file = sumOver (λ (way : List Point). stepsBetween p q way) (retracesIn file)
 
--- how many pieces and links, and how many copies, have an end at p: a stroke counts once for each end that is there
-abbrev pub touches : Point → Point → Point → ℕ
-touches p a b = one (same a p) + one (same b p)
-
+-- how many pieces and links, and how many copies, have an end at p: each counts once for each end that is there
 unfoldable pub drawnAt : Point → List ℕ → ℕ
 unfolding drawingIn piecesOf linksOf sumOver
-drawnAt p file =
-    sumOver (λ (s : Stroke). touches p (s .from) (s .to)) (piecesOf (drawingIn file)) + sumOver (λ (s : Stroke). touches p (s .from) (s .to)) (linksOf (drawingIn file))
+drawnAt p file = strokesAt p (piecesOf (drawingIn file)) + strokesAt p (linksOf (drawingIn file))
 
 unfoldable pub copiesAt : Point → List ℕ → ℕ
 unfolding retracesIn sumOver lineSum

@@ -10,12 +10,10 @@ use lib.Ieee.{Float}
 use borrow.Author.Tests.{eqb-true}
 use Rattle.graph.specs.Graph.{Edge, Arc, edgesAt}
 use Rattle.graph.specs.Ways.{In, Joined, Walks}
+use Rattle.graph.specs.Connected.{joined-sym}
 use Rattle.graph.specs.EdgesAt.{arc-joins}
 use Rattle.repair.specs.Distance.{distanceAt, distances}
 use Rattle.repair.specs.Retrace.{Step, to, none, found, error, onWayBack, member, stepBack, wayBack, shortestPath}
-
-pub joined-comm : {es : List Edge} {u v : ℕ} → Joined es u v → Joined es v u
-joined-comm k = record { by = k .by; isIn = k .isIn; joins = elim (k .joins) [ inl p ↦ inr p | inr p ↦ inl p ] }
 
 -- a step back goes to a neighbour
 stepBack-in : (ds : List Float) (c : Float) (visited : List ℕ) (rs : List Arc) (u : ℕ) → stepBack ds c visited rs ≡ to u → (r : Arc) × In r rs × (r .to ≡ u)
@@ -45,7 +43,7 @@ module _ (es : List Edge) (ds : List Float) (s t : ℕ) (path : List ℕ) where
       go false e (to u) q rec h =
           let r = stepBack-in ds (distanceAt ds v) (v ∷ after) (edgesAt es v) u q in
           let k : Joined es v u = rw (r .2) at (arc-joins es v (r .0) (r .1) .0) in
-          rec u (joined-comm k, w) h
+          rec u (joined-sym k, w) h
       go false e none q rec h = absurd (let z : _≡_ {A = ℕ} 0 1 = cc in omega arith)
 
 pub shortest-along : (n : ℕ) (es : List Edge) (s t : ℕ) (path : List ℕ) → shortestPath n es s t ≡ found path → (rest : List ℕ) × (path ≡ s ∷ rest) × Walks es s rest t

@@ -6,6 +6,7 @@ pub mod Nearest
 pub mod Least
 pub mod Retrace
 pub mod Along
+pub mod Copies
 pub mod Pairing
 pub mod Repair
 pub mod Pairs

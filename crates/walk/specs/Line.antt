@@ -7,18 +7,13 @@ use lib.Dec.{eqb, ltb}
 use Rattle.center.specs.Center.{fromCenter, better}
 use Rattle.drawing.specs.Drawing.{Point, Settings, inside}
 use Rattle.graph.specs.Graph.{Edge, edge}
+pub use Rattle.graph.specs.Graph.{pointAt}
 use Rattle.graph.specs.Degree.{degree, oddNodes, oddFrom}
 use Rattle.graph.specs.Count.{lastFrom}
 use Rattle.repair.specs.Distance.{zeroLength}
 use Rattle.walk.specs.Walk.{By, start, Entry, circuit}
 
 -- ---- the start: among the odd nodes, or among the nodes with edges if none is odd, the one that lies best, first on ties
-
-abbrev noPoint : Point
-noPoint = record { x = 0; y = 0 }
-
-abbrev pub pointAt : List Point → ℕ → Point
-pointAt ns v = getD ns v noPoint
 
 -- the squared distance from the canvas centre, in half steps
 unfoldable pub distance : Settings → Point → ℕ
