@@ -10,6 +10,9 @@ pub mod EdgesAt
 pub mod Odd
 pub mod Connected
 pub mod Reach
+pub mod Handshake
+pub mod Occurs
+pub mod Samples
 pub mod Nodes
 pub mod Strokes
 pub mod Between

@@ -9,4 +9,8 @@ pub mod Along
 pub mod Copies
 pub mod Pairing
 pub mod Repair
+pub mod Pairs
+pub mod Matched
+pub mod Applied
+pub mod Repaired
 pub mod Samples

@@ -49,7 +49,7 @@ without v (u ∷ us) = elim (eqb u v) [ true ↦ us | false ↦ u ∷ without v 
 unfoldable pub swapRemove : List ℕ → ℕ → List ℕ
 swapRemove vs i = let n = length vs - 1 in take n (set vs i (getD vs n 0))
 
-abbrev noPoint : Point
+abbrev pub noPoint : Point
 noPoint = record { x = 0; y = 0 }
 
 -- pairs until two nodes are left; k is at least the number of nodes
