@@ -16,14 +16,9 @@ use Rattle.grid.specs.Grid.{originOfGrid, gap, coordinateOnGrid}
 use Rattle.grid.specs.Same.{same-test}
 use Rattle.grid.specs.Back.{exact-fraction, coordinate-value}
 use Rattle.grid.proofs.Quotient.{quotient}
-<<<<<<< HEAD
 use Rattle.limits.specs.Limits.{mostSide}
 use Rattle.center.specs.Center.{fromMiddleOnGrid, fromCenterOnGrid, better, WithinGrid}
-use Rattle.center.specs.Source.{middle, mulAdd, distanceSquared, nodeDistance, endDistance, betterFloat}
-=======
-use Rattle.center.specs.Center.{largestSide, fromMiddleOnGrid, fromCenterOnGrid, better, WithinGrid}
 use Rattle.center.specs.Source.{middle, mulAdd, distanceSquared, nodeDistance, endDistance, betterFloat, worst}
->>>>>>> grid
 
 -- ---- an operation on two values turns on their fractions alone
 

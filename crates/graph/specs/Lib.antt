@@ -12,7 +12,6 @@ pub mod Connected
 pub mod Reach
 pub mod Handshake
 pub mod Occurs
-pub mod Samples
 pub mod Nodes
 pub mod Strokes
 pub mod Between
