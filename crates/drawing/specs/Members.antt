@@ -19,6 +19,10 @@ either P x y h k true = h
 either P x y h k false = k
 
 module _ {A : Type 0} where
+  pub in-left : (x : A) (xs ys : List A) → In x xs → In x (xs ++ ys)
+  in-left x (y ∷ xs) ys (inl e) = inl e
+  in-left x (y ∷ xs) ys (inr i) = inr (in-left x xs ys i)
+
   module _ (P : A → Type 0) where
     pub all-in : (xs : List A) → All P xs → (x : A) → In x xs → P x
     all-in (y ∷ xs) a x (inl e) = subst P (sym e) (a .0)
