@@ -32,7 +32,7 @@ pub record Fits (file : List ℕ) : Type 0 where
   pub links : linksFit (drawingOf (recordsOf file)) ≡ true
 
 -- none of the conditions holds: not the first, and none of the others
-none : (n : ℕ) (t : Bool) (cs : List Condition) → verdict (condition n t ∷ cs) ≡ accepted → (t ≡ false) × (verdict cs ≡ accepted)
+pub none : (n : ℕ) (t : Bool) (cs : List Condition) → verdict (condition n t ∷ cs) ≡ accepted → (t ≡ false) × (verdict cs ≡ accepted)
 unfolding verdict
 none n true cs e = let z : _≡_ {A = ℕ} 0 1 = cc in absurd (omega arith)
 none n false cs e = (refl, e)

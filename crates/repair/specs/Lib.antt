@@ -13,4 +13,5 @@ pub mod Pairs
 pub mod Matched
 pub mod Applied
 pub mod Repaired
+pub mod Stops
 pub mod Samples
