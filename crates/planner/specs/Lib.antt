@@ -4,5 +4,6 @@ pub mod Words
 pub mod Counted
 pub mod LineEnds
 pub mod Demand3
+pub mod Proved
 pub mod Samples
 pub mod Written
