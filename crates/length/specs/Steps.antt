@@ -1,12 +1,12 @@
 -- A step of Zimmermann's square root (INRIA report 3805, 1999): from the root of a number to the root of one with two more digits, `high` and `low`, in base b.
 use mathlib.Core.Path.{_≡_, ap, sym, _∙_}
 use mathlib.Core.Bool.{Bool, cond}
+use mathlib.Core.Logic.{inl, inr}
 use Prim.Native.Nat.{ℕ, zero, suc, _+_, _-_, _*_, _/_, _%_, _^_, _≤_, _<_}
-use native.Mathlib.Nat.{le-trans, le-of-lt, le-of-suc-le-suc, lt-irrefl, mul-le-mul, mul-le-mul-right, div-add-mod', mod-lt, div-lt-iff-lt-mul}
+use native.Mathlib.Nat.{le-trans, le-of-lt, le-of-suc-le-suc, lt-irrefl, mul-pos, mul-le-mul, mul-le-mul-right, eq-zero-or-pos, div-add-mod', mod-lt, div-lt-iff-lt-mul}
 use native.Mathlib.Omega.{arith}
 use lib.Dec.{ltb}
 use borrow.Author.Tests.{lt-ltb, le-ltb}
-use lib.Ieee.Positive.{first-pos}
 use Rattle.length.specs.Root.{square, wholeRoot, nearRoot}
 use Rattle.length.specs.Whole.{root-lt, whole-root, whole-root-unique}
 
@@ -48,13 +48,26 @@ module _ (root rest high low b : ℕ) (p : Extends root rest high low b) where
   pub divided : n / d * d + n % d ≡ n
   divided = div-add-mod' n d
 
-  -- nothing in the step comes near 2 ^ 64
+  root-times-pos : 0 < root * b
+  root-times-pos = mul-pos (omega (arith, d-pos)) (omega (arith, p .digit-high))
+
+  -- where q² is more than what is left, the root's double makes up for it
+  makes-up : n / d * (n / d) + 1 ≤ n % d * b + low + 2 * (root * b + n / d)
+  makes-up =
+      elim (eq-zero-or-pos (n / d)) [
+        | inl z ↦ rw z (omega (arith, root-times-pos))
+        | inr q ↦ omega (arith, mul-le-mul quotient-le quotient-le, mul-le-mul-right b (p .long))
+      ]
+
+  -- nothing in the step comes near 2 ^ 64, or below 0
   pub record InRange : Type 0 where
     pub rest-times : rest * b ≤ 2 ^ 33 * 2 ^ 21
     pub root-times : root * b ≤ 2 ^ 32 * 2 ^ 21
+    pub root-positive : 0 < root * b
     pub quotient : n / d ≤ 2 ^ 21
     pub quotient-squared : n / d * (n / d) ≤ 2 ^ 21 * 2 ^ 21
     pub remainder-times : n % d * b ≤ 2 ^ 33 * 2 ^ 21
+    pub enough : n / d * (n / d) + 1 ≤ n % d * b + low + 2 * (root * b + n / d)
 
   pub in-range : InRange
   in-range =
@@ -62,9 +75,11 @@ module _ (root rest high low b : ℕ) (p : Extends root rest high low b) where
       record {
         rest-times = mul-le-mul {n₂ = 2 ^ 33} (omega (arith, p .small, p .root-fits)) (p .base-fits);
         root-times = mul-le-mul (le-of-lt (p .root-fits)) (p .base-fits);
+        root-positive = root-times-pos;
         quotient = q;
         quotient-squared = mul-le-mul q q;
         remainder-times = mul-le-mul {n₂ = 2 ^ 33} (omega (arith, mod-lt n d-pos, p .root-fits)) (p .base-fits);
+        enough = makes-up;
       }
 
   -- where q² fits, the root is right
@@ -72,18 +87,12 @@ module _ (root rest high low b : ℕ) (p : Extends root rest high low b) where
       → Rooted ((root * root + rest) * (b * b) + high * b + low) (root * b + n / d) (n % d * b + low - n / d * (n / d))
   fitted h = record { whole = omega (arith, ap (λ (x : ℕ). x * b) divided); small = omega (arith, mul-le-mul-right b (mod-lt n d-pos), p .digit-low) }
 
-  -- where it does not, one less is: the root's own double makes up for what q² takes too much
-  pub lent : n % d * b + low < n / d * (n / d) → n / d * (n / d) + 1 ≤ n % d * b + low + 2 * (root * b + n / d)
-  lent h =
-      let q : 0 < n / d = first-pos (n / d) (n / d) (omega arith) in
-      omega (arith, mul-le-mul quotient-le quotient-le, mul-le-mul-right b (p .long))
-
+  -- where it does not, one less is
   pub lowered : n % d * b + low < n / d * (n / d)
       → Rooted ((root * root + rest) * (b * b) + high * b + low) (root * b + n / d - 1) (n % d * b + low + (2 * (root * b + n / d) - 1) - n / d * (n / d))
   lowered h =
-      let l = lent h in
-      let q : 0 < n / d = first-pos (n / d) (n / d) (omega arith) in
-      record { whole = omega (arith, square-pred (root * b + n / d) (omega arith), ap (λ (x : ℕ). x * b) divided); small = omega arith }
+      let l = makes-up in
+      record { whole = omega (arith, square-pred (root * b + n / d) (omega (arith, root-times-pos)), ap (λ (x : ℕ). x * b) divided); small = omega (arith, root-times-pos) }
 
 -- the root of a number from k² up to (2k)² is a number from k up to 2k, so it can be extended by digits in a base up to 2k
 pub extends : (k n root rest high low b : ℕ) → square k ≤ n → n < square (2 * k) → 2 * k ≤ 2 ^ 32 → b ≤ 2 * k → b ≤ 2 ^ 21 → high < b → low < b → Rooted n root rest

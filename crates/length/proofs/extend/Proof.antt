@@ -1,7 +1,7 @@
 -- `length::extend` meets its contract: the step of `specs/Steps.antt`, of which nothing comes near 2 ^ 64.
 use borrow.Author.Needs.{needs}
 use native.Mathlib.Omega.{arith}
-use Rattle.length.specs.Steps.{in-range, lent, fitted, lowered}
+use Rattle.length.specs.Steps.{in-range, fitted, lowered}
 use Rattle.length.proofs.extend.Statement.{statement}
 use Rattle.length.proofs.extend.Tie as tie
 
@@ -36,22 +36,22 @@ mul-take : tie.Need-mul-take
 mul-take c = let r = in-range _ _ _ _ _ (c .before .before .before .pre) in omega arith
 
 returns : tie.Need-returns
-returns c = fitted _ _ _ _ _ (c .before .before .before .before .pre) (c .if1 .taken)
+returns c = fitted _ _ _ _ _ (c .before .before .before .before .pre) (omega arith)
 
 sub-t11 : tie.Need-sub-t11
-sub-t11 c = omega (arith, lent _ _ _ _ _ (c .before .before .before .before .pre) (c .if1 .left))
+sub-t11 c = let r = in-range _ _ _ _ _ (c .before .before .before .before .pre) in omega arith
 
 mul-t12 : tie.Need-mul-t12
 mul-t12 c = let r = in-range _ _ _ _ _ (c .before .before .before .before .pre) in omega arith
 
 sub-t15 : tie.Need-sub-t15
-sub-t15 c = omega (arith, lent _ _ _ _ _ (c .before .before .before .before .pre) (c .if1 .left))
+sub-t15 c = let r = in-range _ _ _ _ _ (c .before .before .before .before .pre) in omega arith
 
 add-t16 : tie.Need-add-t16
 add-t16 c = let r = in-range _ _ _ _ _ (c .before .before .before .before .pre) in omega arith
 
 sub-t17 : tie.Need-sub-t17
-sub-t17 c = omega (arith, lent _ _ _ _ _ (c .before .before .before .before .pre) (c .if1 .left))
+sub-t17 c = let r = in-range _ _ _ _ _ (c .before .before .before .before .pre) in omega arith
 
 returns-2 : tie.Need-returns-2
 returns-2 c = lowered _ _ _ _ _ (c .before .before .before .before .pre) (c .if1 .left)
