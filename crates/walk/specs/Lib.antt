@@ -8,3 +8,4 @@ pub mod Circuit
 pub mod Cut
 pub mod Start
 pub mod Traced
+pub mod Oriented
