@@ -47,11 +47,11 @@ pub record IsArc (es : List Edge) (v : ℕ) (r : Arc) : Type 0 where
 -- ---- by one of the two ends
 
 -- r is the arc of an edge of es, the first of which has the number i, and its near end is v
-pub record Seen (near far : Edge → ℕ) (v i : ℕ) (es : List Edge) (r : Arc) : Type 0 where
-  pub place : ℕ
-  pub isEdge : place < length es
-  pub is : r ≡ arcOf far (i + place) (edgeAt es place)
-  pub at : near (edgeAt es place) ≡ v
+record Seen (near far : Edge → ℕ) (v i : ℕ) (es : List Edge) (r : Arc) : Type 0 where
+  place : ℕ
+  isEdge : place < length es
+  is : r ≡ arcOf far (i + place) (edgeAt es place)
+  at : near (edgeAt es place) ≡ v
 
 -- what holds of both holds of the one chosen
 either : {A : Type 0} (P : A → Type 0) (t : Bool) (x y : A) → P x → P y → P (elim t [ true ↦ x | false ↦ y ])

@@ -1,6 +1,6 @@
 -- Laws of the sums over edges: what one edge gives to a degree or to the edges between two nodes, and sums over two lists.
 use mathlib.Core.Path.{_≡_, refl, sym, ap}
-use mathlib.Core.Logic.{_⊎_, inl, inr}
+use mathlib.Core.Logic.{inl, inr}
 use mathlib.Core.List.{List, [], _∷_, _++_}
 use mathlib.Core.Bool.{Bool, true, false, _&&_, _||_}
 use Prim.Native.Nat.{ℕ, _+_, _≤_, _<_, zero-le}

@@ -1,23 +1,23 @@
 -- The circuit of an even connected graph: it comes back to its start, and has every edge once.
-use mathlib.Core.Path.{_≡_, refl, sym, ap, _∙_, subst}
-use mathlib.Core.Logic.{_⊎_, inl, inr}
+use mathlib.Core.Path.{_≡_, refl, sym, ap, _∙_}
+use mathlib.Core.Logic.{inl, inr}
 use mathlib.Core.List.{List, [], _∷_, map}
-use mathlib.Core.Bool.{Bool, true, false}
-use Prim.Native.Nat.{ℕ, zero, suc, _+_, _*_, _%_, _≤_, _<_}
+use mathlib.Core.Bool.{true, false}
+use Prim.Native.Nat.{ℕ, suc, _+_, _*_, _%_, _≤_, _<_}
 use native.Mathlib.Nat.{zero-add, not-suc-le-zero}
 use native.Mathlib.Decide.{ℕ-discrete}
 use native.Mathlib.Omega.{arith}
-use lib.ListN.{length, getD, replicate, getD-replicate, length-map}
+use lib.ListN.{length, replicate, getD-replicate}
 use Rattle.graph.specs.Graph.{Edge}
 use Rattle.graph.specs.Degree.{hit, degree}
 use Rattle.graph.specs.Count.{sumOver, stepSum, lineSum, lastFrom, joint, joining}
 use Rattle.graph.specs.Ways.{In, Joins, Reach, here, on}
 use Rattle.graph.specs.Sums.{hit-same, hit-other, joins-hit, joins-joint, degree-sum}
 use Rattle.graph.specs.EdgesAt.{edgeAt, edgeAt-in, number-of}
-use Rattle.walk.specs.Walk.{By, start, Entry, circuit}
+use Rattle.walk.specs.Walk.{start, Entry, circuit}
 use Rattle.walk.specs.Free.{Weight, allSum, freeSum, isFree, freeSum-use, freeSum-none, freeSum-all, allSum-ends}
 use Rattle.walk.specs.Next.{atNode}
-use Rattle.walk.specs.Trail.{byWeight, bySum, Entered, Trail, Done, Walking, Walked, run}
+use Rattle.walk.specs.Trail.{byWeight, bySum, Trail, Done, Walking, Walked, run}
 
 abbrev pub nodesOf : List Entry → List ℕ
 nodesOf ts = map (λ (t : Entry). t .node) ts
@@ -152,3 +152,6 @@ module _ (es : List Edge) (s : ℕ) (o : List Entry) (c : Circuit es s o) where
   pub circuit-steps : (u v : ℕ) → lineSum (joint u v) (nodesOf o) ≡ joining u v es
   unfolding lineSum
   circuit-steps u v = rw (c .is) (rest-sum (joint u v) (λ (e : Edge). joint u v (e .a) (e .b)) (joins-joint u v))
+
+  pub circuit-count : length (nodesOf o) ≡ suc (length es)
+  circuit-count = ap (λ (ts : List Entry). length (nodesOf ts)) (c .is) ∙ ap suc rest-count

@@ -1,19 +1,18 @@
 -- The cut: of a circuit that goes along one more edge x, the line that is left when the step by x is cut. It loses that step and no other, and runs from one end of x to the other.
 use mathlib.Core.Path.{_≡_, refl, sym, ap, _∙_, subst}
-use mathlib.Core.Logic.{_⊎_, inl, inr}
-use mathlib.Core.List.{List, [], _∷_, _++_, map, map-append, reverse, reverse-cons, append-nil, append-assoc}
+use mathlib.Core.Logic.{inl, inr}
+use mathlib.Core.List.{List, [], _∷_, _++_, map-append, reverse, reverse-cons, append-nil, append-assoc}
 use mathlib.Core.Bool.{Bool, true, false, true≢false}
 use Prim.Native.Nat.{ℕ, suc, _+_, _<_}
 use native.Mathlib.Nat.{not-suc-le-zero}
 use native.Mathlib.Omega.{arith}
-use lib.ListN.{length, getD, drop, length-append, length-map}
+use lib.ListN.{length, drop, length-append}
 use lib.Seq.{getD-append-seam}
-use lib.Dec.{eqb}
 use borrow.Author.Tests.{eqb-true}
 use Rattle.graph.specs.Graph.{Edge}
 use Rattle.graph.specs.Degree.{one}
 use Rattle.graph.specs.Count.{sumOver, stepSum, lineSum, lastFrom, joint, joining}
-use Rattle.graph.specs.Ways.{In, Inside, All, Joins}
+use Rattle.graph.specs.Ways.{Inside, All, Joins}
 use Rattle.graph.specs.Sums.{hit-same, joins-joint, sumOver-append}
 use Rattle.graph.specs.Lines.{stepSum-append, lastFrom-append, all-append, all-front, all-back}
 use Rattle.graph.specs.EdgesAt.{edgeAt, edgeAt-in}
@@ -59,22 +58,19 @@ unfolding isBy
 isBy-weight es i start = refl
 isBy-weight es i (By.edge j) = refl
 
-cutAt-here : (i : ℕ) (before : List Entry) (t : Entry) (ts : List Entry) → isBy i (t .by) ≡ true → cutAt i before (t ∷ ts) ≡ (t ∷ ts) ++ drop 1 (reverse before)
-unfolding cutAt
-cutAt-here i before t ts e = rw (cutAt, e)
-
+-- an entry that was not entered by the edge i is passed over
 cutAt-later : (i : ℕ) (before : List Entry) (t : Entry) (ts : List Entry) → isBy i (t .by) ≡ false → cutAt i before (t ∷ ts) ≡ cutAt i (t ∷ before) ts
 unfolding cutAt
 cutAt-later i before t ts e = rw (cutAt, e)
 
 -- where some entry was entered by the edge i
 cut-finds : (es : List Edge) (i : ℕ) (before ts : List Entry) → 0 < bySum es (isNumber i) ts → Found i before ts
-unfolding sumOver
+unfolding sumOver cutAt
 cut-finds es i before [] h = absurd (not-suc-le-zero h)
 cut-finds es i before (t ∷ ts) h = go (isBy i (t .by)) refl (cut-finds es i (t ∷ before) ts)
   where
     go : (b : Bool) → isBy i (t .by) ≡ b → (0 < bySum es (isNumber i) ts → Found i (t ∷ before) ts) → Found i before (t ∷ ts)
-    go true e rec = record { front = []; step = t; back = ts; is = refl; by-is = isBy-is i (t .by) e; cut = cutAt-here i before t ts e ∙ rw append-nil }
+    go true e rec = record { front = []; step = t; back = ts; is = refl; by-is = isBy-is i (t .by) e; cut = rw (cutAt, e, append-nil) }
     go false e rec =
         let f = rec (omega (arith, h, isBy-weight es i (t .by), ap one e)) in
         record {

@@ -1,6 +1,6 @@
 -- What `next` gives: an edge at the node that is not used, or nothing where the node has none left.
 use mathlib.Core.Path.{_≡_, refl, sym, ap, _∙_}
-use mathlib.Core.Logic.{_⊎_, inl, inr}
+use mathlib.Core.Logic.{inl, inr}
 use mathlib.Core.List.{List, [], _∷_}
 use mathlib.Core.Bool.{Bool, true, false, true≢false}
 use Prim.Native.Nat.{ℕ, _+_, _<_}
@@ -30,12 +30,12 @@ Fits es used u spent = freeSum (atNode u) 0 es used ≡ 0
 Fits es used u (along i v) = Leads es used u i v
 
 -- the first arc that is not used, or all are used
-pub record FirstFree (used : List Bool) (rs : List Arc) (i v : ℕ) : Type 0 where
-  pub arc : Arc
-  pub isIn : In arc rs
-  pub number-is : arc .number ≡ i
-  pub to-is : arc .to ≡ v
-  pub free : isFree used i
+record FirstFree (used : List Bool) (rs : List Arc) (i v : ℕ) : Type 0 where
+  arc : Arc
+  isIn : In arc rs
+  number-is : arc .number ≡ i
+  to-is : arc .to ≡ v
+  free : isFree used i
 
 abbrev Says : List Bool → List Arc → Next → Type 0
 Says used rs spent = (r : Arc) → In r rs → isFree used (r .number) → ⊥

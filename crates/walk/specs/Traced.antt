@@ -2,7 +2,7 @@
 use mathlib.Core.Path.{_≡_, refl, sym, ap, _∙_}
 use mathlib.Core.Logic.{_⊎_, inl, inr}
 use mathlib.Core.List.{List, [], _∷_, _++_}
-use Prim.Native.Nat.{ℕ, suc, _+_, _%_, _<_}
+use Prim.Native.Nat.{ℕ, suc, _%_, _<_}
 use native.Mathlib.Nat.{zero-add, zero-lt-suc}
 use native.Mathlib.Decide.{ℕ-discrete}
 use native.Mathlib.Omega.{arith}
@@ -10,7 +10,7 @@ use lib.ListN.{length}
 use lib.Ieee.{Float}
 use Rattle.drawing.specs.Drawing.{Point, Settings}
 use Rattle.graph.specs.Graph.{Edge, edge}
-use Rattle.graph.specs.Degree.{hit, degree, oddNodes, oddFrom}
+use Rattle.graph.specs.Degree.{hit, degree, oddNodes}
 use Rattle.graph.specs.Count.{lineSum, lastFrom, joint, joining}
 use Rattle.graph.specs.Ways.{In, All, Inside, Joins, Reach}
 use Rattle.graph.specs.Sums.{hit-same, hit-other, degree-append}
@@ -19,8 +19,8 @@ use Rattle.graph.specs.Odd.{oddNodes-member, oddNodes-ascends, even-else}
 use Rattle.graph.specs.Connected.{reach-trans, reach-sym, reach-more}
 use Rattle.repair.specs.Distance.{zeroLength}
 use Rattle.walk.specs.Walk.{Entry, circuit}
-use Rattle.walk.specs.Line.{best, withEdges, cutAt, euler, hierholzer}
-use Rattle.walk.specs.Circuit.{nodesOf, Circuit, circuit-is, circuit-steps, rest-count, trail-last}
+use Rattle.walk.specs.Line.{best, withEdges, euler, hierholzer}
+use Rattle.walk.specs.Circuit.{nodesOf, Circuit, circuit-is, circuit-steps, circuit-count, trail-last}
 use Rattle.walk.specs.Cut.{CutLine, cut-line, trail-within}
 use Rattle.walk.specs.Start.{best-keeps, withEdges-within}
 
@@ -48,7 +48,7 @@ circuit-traced n es s o inside l h c = record {
   is = ap nodesOf (c .is);
   steps = circuit-steps es s o c;
   within = rw (c .is) (rw (c .begins) l, trail-within n es inside s (c .first) (c .rest) (c .trail));
-  count = ap (λ (ts : List Entry). length (nodesOf ts)) (c .is) ∙ ap suc (rest-count es s o c);
+  count = circuit-count es s o c;
   closed = λ k. trail-last es s (c .first) (c .rest) (c .trail) ∙ sym (c .begins);
   ends = λ x y k. absurd (none-not-two x y (sym h ∙ k));
 }
@@ -102,39 +102,32 @@ cut-traced n es u v x line inside h c = record {
 
 -- ---- the walk
 
-module _ (s : Settings) (p : Point) (ps : List Point) (es : List Edge) where
-  euler-none : oddNodes (length (p ∷ ps)) es ≡ [] → euler s (p ∷ ps) es ≡ nodesOf (circuit es (best s (p ∷ ps) (withEdges es (length (p ∷ ps)) 0)))
+module _ (s : Settings) (p : Point) (ps : List Point) (es : List Edge) (inside : Inside (length (p ∷ ps)) es) (reached : (v : ℕ) → v < length (p ∷ ps) → Reach es 0 v) where
+  -- every node is reached from any other
+  from : (v u : ℕ) → v < length (p ∷ ps) → u < length (p ∷ ps) → Reach es v u
+  from v u l m = reach-trans (reach-sym (reached v l)) (reached u m)
+
+  traced-none : oddNodes (length (p ∷ ps)) es ≡ [] → Traced (length (p ∷ ps)) es (euler s (p ∷ ps) es)
   unfolding euler
-  euler-none h = rw (euler, h)
+  traced-none h =
+      let n = length (p ∷ ps) in
+      let v = best s (p ∷ ps) (withEdges es n 0) in
+      let l : v < n = best-keeps (λ (x : ℕ). x < n) s (p ∷ ps) (withEdges es n 0) (zero-lt-suc (length ps)) (withEdges-within es n 0 n (zero-add n)) in
+      rw (euler, h) (circuit-traced n es v (circuit es v) inside l h
+      (circuit-is es v (λ w. even-else n es w inside (λ i. rw h at i)) (λ e i. from v (e .a) l (inside e i .0))))
 
-  euler-two : (u v : ℕ) → oddNodes (length (p ∷ ps)) es ≡ u ∷ v ∷ []
-      → euler s (p ∷ ps) es ≡ nodesOf (cutAt (length es) [] (circuit (es ++ (edge u v zeroLength ∷ [])) (best s (p ∷ ps) (u ∷ v ∷ []))))
+  traced-two : (u v : ℕ) → oddNodes (length (p ∷ ps)) es ≡ u ∷ v ∷ [] → Traced (length (p ∷ ps)) es (euler s (p ∷ ps) es)
   unfolding euler
-  euler-two u v h = rw (euler, h)
-
-  module _ (inside : Inside (length (p ∷ ps)) es) (reached : (v : ℕ) → v < length (p ∷ ps) → Reach es 0 v) where
-    -- every node is reached from any other
-    from : (v u : ℕ) → v < length (p ∷ ps) → u < length (p ∷ ps) → Reach es v u
-    from v u l m = reach-trans (reach-sym (reached v l)) (reached u m)
-
-    traced-none : oddNodes (length (p ∷ ps)) es ≡ [] → Traced (length (p ∷ ps)) es (euler s (p ∷ ps) es)
-    traced-none h =
-        let n = length (p ∷ ps) in
-        let v = best s (p ∷ ps) (withEdges es n 0) in
-        let l : v < n = best-keeps (λ (x : ℕ). x < n) s (p ∷ ps) (withEdges es n 0) (zero-lt-suc (length ps)) (withEdges-within es n 0 n (zero-add n)) in
-        rw (euler-none h) (circuit-traced n es v (circuit es v) inside l h (circuit-is es v (λ w. even-else n es w inside (λ i. rw h at i)) (λ e i. from v (e .a) l (inside e i .0))))
-
-    traced-two : (u v : ℕ) → oddNodes (length (p ∷ ps)) es ≡ u ∷ v ∷ [] → Traced (length (p ∷ ps)) es (euler s (p ∷ ps) es)
-    traced-two u v h =
-        let n = length (p ∷ ps) in
-        let x = edge u v zeroLength in
-        let w = best s (p ∷ ps) (u ∷ v ∷ []) in
-        let lu : u < n = oddNodes-member n es u .0 (rw h (inl refl)) .0 in
-        let lv : v < n = oddNodes-member n es v .0 (rw h (inr (inl refl))) .0 in
-        let l : w < n = best-keeps (λ (y : ℕ). y < n) s (p ∷ ps) (u ∷ v ∷ []) (zero-lt-suc (length ps)) (lu, (lv, tt)) in
-        let more = inside-with n es u v zeroLength inside lu lv in
-        rw (euler-two u v h) (cut-traced n es u v zeroLength _ more h (cut-line es x w (circuit (es ++ (x ∷ [])) w)
-        (circuit-is (es ++ (x ∷ [])) w (even-with n es u v zeroLength inside h) (λ e i. reach-more (λ y k. in-front y es (x ∷ []) k) (from w (e .a) l (more e i .0))))))
+  traced-two u v h =
+      let n = length (p ∷ ps) in
+      let x = edge u v zeroLength in
+      let w = best s (p ∷ ps) (u ∷ v ∷ []) in
+      let lu : u < n = oddNodes-member n es u .0 (rw h (inl refl)) .0 in
+      let lv : v < n = oddNodes-member n es v .0 (rw h (inr (inl refl))) .0 in
+      let l : w < n = best-keeps (λ (y : ℕ). y < n) s (p ∷ ps) (u ∷ v ∷ []) (zero-lt-suc (length ps)) (lu, (lv, tt)) in
+      let more = inside-with n es u v zeroLength inside lu lv in
+      let c = circuit-is (es ++ (x ∷ [])) w (even-with n es u v zeroLength inside h) (λ e i. reach-more (λ y k. in-front y es (x ∷ []) k) (from w (e .a) l (more e i .0))) in
+      rw (euler, h) (cut-traced n es u v zeroLength _ more h (cut-line es x w (circuit (es ++ (x ∷ [])) w) c))
 
 -- Every edge of a connected graph is gone along once. The line ends where it began if no node is odd, and runs from one odd node to the other if two are.
 pub traced : (s : Settings) (p : Point) (ps : List Point) (es : List Edge) → Inside (length (p ∷ ps)) es → ((v : ℕ) → v < length (p ∷ ps) → Reach es 0 v)

@@ -3,11 +3,11 @@
 -- so each entry taken off is joined with the one taken off before it.
 use mathlib.Core.Path.{_≡_, refl, sym, ap, _∙_, subst}
 use mathlib.Core.List.{List, [], _∷_}
-use mathlib.Core.Bool.{Bool, true, false}
+use mathlib.Core.Bool.{Bool, true}
 use Prim.Native.Nat.{ℕ, zero, suc, _+_, _*_, _%_, _<_}
 use native.Mathlib.Nat.{zero-add, not-suc-le-zero}
 use native.Mathlib.Omega.{arith}
-use lib.ListN.{length, getD, set, replicate}
+use lib.ListN.{length, set}
 use Rattle.graph.specs.Graph.{Edge}
 use Rattle.graph.specs.Degree.{hit}
 use Rattle.graph.specs.Count.{sumOver}
