@@ -32,23 +32,15 @@ copy u v es = edge u v (weightTo v (edgesAt es u))
 abbrev pub laid : ℕ → ℕ → Laid → Laid
 laid u v l = record { edges = l .edges ++ (copy u v (l .edges) ∷ []); sum = add binary64 (l .sum) (weightTo v (edgesAt (l .edges) u)) }
 
-lay-none : (u : ℕ) (l : Laid) → lay u [] l ≡ l
-unfolding lay
-lay-none u l = refl
-
-lay-step : (u v : ℕ) (vs : List ℕ) (l : Laid) → lay u (v ∷ vs) l ≡ lay v vs (laid u v l)
-unfolding lay
-lay-step u v vs l = refl
-
 -- ---- counts: what is summed over the edges grows by the same sum over the steps of the path
 module _ (g : ℕ → ℕ → ℕ) where
   abbrev ofEnds : Edge → ℕ
   ofEnds e = g (e .a) (e .b)
 
   lay-sum : (u : ℕ) (vs : List ℕ) (l : Laid) → sumOver ofEnds (lay u vs l .edges) ≡ sumOver ofEnds (l .edges) + lineSum g (u ∷ vs)
-  unfolding lineSum sumOver
-  lay-sum u [] l = rw lay-none (sym (add-zero _))
-  lay-sum u (v ∷ vs) l = rw lay-step (omega (arith, lay-sum v vs (laid u v l), sumOver-append ofEnds (l .edges) (copy u v (l .edges) ∷ [])))
+  unfolding lay lineSum sumOver
+  lay-sum u [] l = sym (add-zero _)
+  lay-sum u (v ∷ vs) l = omega (arith, lay-sum v vs (laid u v l), sumOver-append ofEnds (l .edges) (copy u v (l .edges) ∷ []))
 
 pub lay-joining : (u : ℕ) (vs : List ℕ) (l : Laid) (p q : ℕ) → joining p q (lay u vs l .edges) ≡ joining p q (l .edges) + lineSum (joint p q) (u ∷ vs)
 lay-joining u vs l p q = lay-sum (joint p q) u vs l
@@ -57,8 +49,9 @@ pub lay-degree : (u : ℕ) (vs : List ℕ) (l : Laid) (v : ℕ) → degree (lay 
 lay-degree u vs l v = rw (degree-sum (lay u vs l .edges) v, degree-sum (l .edges) v) (lay-sum (λ (a b : ℕ). hit a v + hit b v) u vs l)
 
 pub lay-length : (u : ℕ) (vs : List ℕ) (l : Laid) → length (lay u vs l .edges) ≡ length (l .edges) + length vs
-lay-length u [] l = rw lay-none (sym (add-zero _))
-lay-length u (v ∷ vs) l = rw lay-step (omega (arith, lay-length v vs (laid u v l), length-append (l .edges) (copy u v (l .edges) ∷ [])))
+unfolding lay
+lay-length u [] l = sym (add-zero _)
+lay-length u (v ∷ vs) l = omega (arith, lay-length v vs (laid u v l), length-append (l .edges) (copy u v (l .edges) ∷ []))
 
 -- ---- parity: each node inside a walk is left as often as it is come to
 walk-parity : (es : List Edge) (u : ℕ) (vs : List ℕ) (t : ℕ) → Walks es u vs t → (v : ℕ) → (lineSum (λ (a b : ℕ). hit a v + hit b v) (u ∷ vs) + hit u v + hit t v) % 2 ≡ 0
@@ -72,8 +65,9 @@ lay-parity u vs l t w v = omega (arith, lay-degree u vs l v, walk-parity (l .edg
 
 -- ---- the edges that were there stay
 pub lay-keeps : (u : ℕ) (vs : List ℕ) (l : Laid) (e : Edge) → In e (l .edges) → In e (lay u vs l .edges)
-lay-keeps u [] l e i = rw lay-none i
-lay-keeps u (v ∷ vs) l e i = rw lay-step (lay-keeps v vs (laid u v l) e (in-left e (l .edges) (copy u v (l .edges) ∷ []) i))
+unfolding lay
+lay-keeps u [] l e i = i
+lay-keeps u (v ∷ vs) l e i = lay-keeps v vs (laid u v l) e (in-left e (l .edges) (copy u v (l .edges) ∷ []) i)
 
 pub lay-old : (u : ℕ) (vs : List ℕ) (l : Laid) (x y : ℕ) → Joined (l .edges) x y → Joined (lay u vs l .edges) x y
 lay-old u vs l x y k = record { by = k .by; isIn = lay-keeps u vs l (k .by) (k .isIn); joins = k .joins }
@@ -154,8 +148,9 @@ laid-walks u v l x (y ∷ vs) t w =
 
 -- every edge after a retrace was there, or is a copy of one that was
 pub lay-copied : (u : ℕ) (vs : List ℕ) (l : Laid) (t : ℕ) → Walks (l .edges) u vs t → (e : Edge) → In e (lay u vs l .edges) → Copied (l .edges) e
-lay-copied u [] l t w e i = own (rw lay-none at i)
-lay-copied u (v ∷ vs) l t w e i = copied-trans (laid-copied u v l (w .0)) (lay-copied v vs (laid u v l) t (laid-walks u v l v vs t (w .1)) e (rw lay-step at i))
+unfolding lay
+lay-copied u [] l t w e i = own i
+lay-copied u (v ∷ vs) l t w e i = copied-trans (laid-copied u v l (w .0)) (lay-copied v vs (laid u v l) t (laid-walks u v l v vs t (w .1)) e i)
 
 copied-nonneg : {es : List Edge} {e : Edge} → Weights es → Copied es e → Nonneg binary64 (e .weight)
 copied-nonneg weights c = rw (c .weight-is) (weights (c .of) (c .isIn))
@@ -178,7 +173,8 @@ module _ (u : ℕ) (vs : List ℕ) (l : Laid) (t : ℕ) (w : Walks (l .edges) u 
 
 -- the length of a retrace is a sum of weights
 pub lay-nonneg : (u : ℕ) (vs : List ℕ) (l : Laid) (t : ℕ) → Walks (l .edges) u vs t → Weights (l .edges) → Nonneg binary64 (l .sum) → Nonneg binary64 (lay u vs l .sum)
-lay-nonneg u [] l t w weights n = rw lay-none n
+unfolding lay
+lay-nonneg u [] l t w weights n = n
 lay-nonneg u (v ∷ vs) l t w weights n =
-    rw lay-step (lay-nonneg v vs (laid u v l) t (laid-walks u v l v vs t (w .1)) (λ e i. copied-nonneg weights (laid-copied u v l (w .0) e i))
-    (add-nonneg binary64 (l .sum) _ n (copied-nonneg weights (copy-of (l .edges) u v (w .0)))))
+    lay-nonneg v vs (laid u v l) t (laid-walks u v l v vs t (w .1)) (λ e i. copied-nonneg weights (laid-copied u v l (w .0) e i))
+    (add-nonneg binary64 (l .sum) _ n (copied-nonneg weights (copy-of (l .edges) u v (w .0))))

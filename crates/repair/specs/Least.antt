@@ -18,7 +18,7 @@ use Rattle.graph.specs.Degree.{one}
 use Rattle.graph.specs.Count.{sumOver}
 use Rattle.graph.specs.Ways.{In, Joins, Inside}
 use Rattle.repair.specs.Distance.{infinity, zeroLength, distanceAt, Nearest, pick, relaxAll, dijkstra, distances}
-use Rattle.repair.specs.Relax.{keyAt, Distances, set-cases, Improved, no-higher, still-nonneg, Next, next-nonneg, relaxAll-is}
+use Rattle.repair.specs.Relax.{keyAt, AllNonneg, set-cases, Improved, no-higher, still-nonneg, Next, next-nonneg, relaxAll-is}
 use Rattle.repair.specs.Nearest.{Done, Open, Picked, pick-is}
 pub use Rattle.repair.specs.Cost.{Weights, Way, here, step, Least, way-nonneg, least-nonneg, least-unique}
 
@@ -54,7 +54,7 @@ top = key binary64 infinity
 record Invariant (n : ℕ) (es : List Edge) (s : ℕ) (ds : List Float) (done : List Bool) : Type 0 where
   nodes : length ds ≡ n
   flags : length done ≡ n
-  nonneg : Distances ds
+  nonneg : AllNonneg ds
   source : distanceAt ds s ≡ zeroLength
   way : (v : ℕ) → (distanceAt ds v ≡ infinity) ⊎ Way es s v (distanceAt ds v)
   -- no node that is done is farther than one that is not, and its edges offer nothing nearer
@@ -66,20 +66,27 @@ abbrev Settled : List Float → List Bool → Type 0
 Settled ds done = (v : ℕ) → Open done v → top ≤ keyAt ds v
 
 -- u is a node that is not done, at the distance d, or none
-abbrev Own : List Float → List Bool → ℕ → Float → Type 0
-Own ds done u d = ((u ≡ length ds) × (d ≡ infinity)) ⊎ ((u < length ds) × (d ≡ distanceAt ds u) × Open done u)
+abbrev NodeOrNone : List Float → List Bool → ℕ → Float → Type 0
+NodeOrNone ds done u d = ((u ≡ length ds) × (d ≡ infinity)) ⊎ ((u < length ds) × (d ≡ distanceAt ds u) × Open done u)
 
 -- what the next round takes: the nearest node that is not done, or none where all of these are infinitely far
 record Chosen (ds : List Float) (done : List Bool) (u : ℕ) (d : Float) : Type 0 where
-  far : Nonneg binary64 d
+  nonneg : Nonneg binary64 d
   least : (v : ℕ) → Open done v → key binary64 d ≤ keyAt ds v
   most : (v : ℕ) → Done done v → keyAt ds v ≤ key binary64 d
-  own : Own ds done u d
+  node : NodeOrNone ds done u d
+
+abbrev noNode : List Float → Nearest
+noNode ds = record { node = length ds; distance = infinity }
+
+beyond : (ds : List Float) (v : ℕ) → length ds ≤ v → distanceAt ds v ≡ infinity
+beyond ds v h = List·getD-eq-default ds infinity h
 
 joins-inside : (n : ℕ) (es : List Edge) → Inside n es → (e : Edge) (u v : ℕ) → In e es → Joins e u v → v < n
 joins-inside n es inside e u v i (inl j) = rw (← j .1) (inside e i .1)
 joins-inside n es inside e u v i (inr j) = rw (← j .0) (inside e i .0)
 
+-- ---- the rounds
 module _ (n : ℕ) (es : List Edge) (weights : Weights es) (inside : Inside n es) (s : ℕ) where
   module _ (ds : List Float) (done : List Bool) (I : Invariant n es s ds done) (u : ℕ) (d : Float) (C : Chosen ds done u d) where
     after : List Float
@@ -87,10 +94,11 @@ module _ (n : ℕ) (es : List Edge) (weights : Weights es) (inside : Inside n es
 
     improved : Improved (Next u d es) ds after
     unfolding after
-    improved = relaxAll-is u d (C .far) es ds weights (I .nonneg)
+    improved = relaxAll-is u d (C .nonneg) es ds weights (I .nonneg)
 
+    -- an edge's offer is no nearer than u itself
     above : (v : ℕ) (c : Float) → Next u d es v c → key binary64 d ≤ key binary64 c
-    above v c o = rw (o .3) (add-above binary64 d (o .0 .weight) (C .far) (weights (o .0) (o .1)))
+    above v c o = rw (o .3) (add-above binary64 d (o .0 .weight) (C .nonneg) (weights (o .0) (o .1)))
 
     -- what is no farther than d stays
     stays : (v : ℕ) → keyAt ds v ≤ key binary64 d → distanceAt after v ≡ distanceAt ds v
@@ -103,7 +111,7 @@ module _ (n : ℕ) (es : List Edge) (weights : Weights es) (inside : Inside n es
     -- done after the round: done before, or u itself
     was : (v : ℕ) → Done (set done u true) v → Done done v ⊎ ((v ≡ u) × (d ≡ distanceAt ds u))
     was v h =
-        elim (C .own) [
+        elim (C .node) [
           | inl o ↦ inl (rw (set-out done u true (le-of-eq (I .flags ∙ sym (I .nodes) ∙ sym (o .0)))) at h)
           | inr o ↦ elim (set-cases done u true false v) [ inl e ↦ inr (e .0, o .1) | inr e ↦ inl (sym e ∙ h) ]
         ]
@@ -116,12 +124,12 @@ module _ (n : ℕ) (es : List Edge) (weights : Weights es) (inside : Inside n es
 
     -- a distance that changed is that of a way by u, to which there is a way, since beyond infinity nothing is nearer
     new-way : (v : ℕ) → (distanceAt after v ≡ infinity) ⊎ Way es s v (distanceAt after v)
-    new-way v = elim (improved .change v) [ inl e ↦ rw e (I .way v) | inr q ↦ changed (q .0) (q .1) (C .own) ]
+    new-way v = elim (improved .change v) [ inl e ↦ rw e (I .way v) | inr q ↦ changed (q .0) (q .1) (C .node) ]
       where
         too-far : keyAt after v < keyAt ds v → Next u d es v (distanceAt after v) → d ≡ infinity → ⊥
         too-far l o h = not-le-of-lt l (le-trans (key-top binary64 (distanceAt ds v) (I .nonneg v)) (le-trans (le-of-eq (ap (λ (x : Float). key binary64 x) (sym h))) (above v (distanceAt after v) o)))
 
-        changed : Next u d es v (distanceAt after v) → keyAt after v < keyAt ds v → Own ds done u d
+        changed : Next u d es v (distanceAt after v) → keyAt after v < keyAt ds v → NodeOrNone ds done u d
             → (distanceAt after v ≡ infinity) ⊎ Way es s v (distanceAt after v)
         changed o l (inl p) = absurd (too-far l o (p .1))
         changed o l (inr p) =
@@ -136,7 +144,7 @@ module _ (n : ℕ) (es : List Edge) (weights : Weights es) (inside : Inside n es
         record {
           nodes = improved .same ∙ I .nodes;
           flags = length-set done u true ∙ I .flags;
-          nonneg = still-nonneg improved (I .nonneg) (next-nonneg u d (C .far) es weights);
+          nonneg = still-nonneg improved (I .nonneg) (next-nonneg u d (C .nonneg) es weights);
           source = stays s (rw (I .source, zero-key binary64) zero-le) ∙ I .source;
           way = new-way;
           order = λ v w p q. rw (stays v (near v p)) (le-trans (near v p) (no-nearer w (C .least w (was-open w q))));
@@ -149,6 +157,7 @@ module _ (n : ℕ) (es : List Edge) (weights : Weights es) (inside : Inside n es
           ];
         }
 
+    -- where the nearest is infinitely far, so are the others
     settled : top ≤ key binary64 d → Settled (relaxAll u d es ds) (set done u true)
     unfolding after
     settled h v o = le-trans h (no-nearer v (C .least v (was-open v o)))
@@ -156,7 +165,7 @@ module _ (n : ℕ) (es : List Edge) (weights : Weights es) (inside : Inside n es
     -- one node fewer is left, or all that are left are infinitely far
     progress : (k : ℕ) → (undone done ≤ suc k) ⊎ Settled ds done → (undone (set done u true) ≤ k) ⊎ Settled (relaxAll u d es ds) (set done u true)
     progress k m =
-        elim (C .own) [
+        elim (C .node) [
           | inl o ↦ inr (settled (rw (o .1) (le-refl _)))
           | inr o ↦ elim m [
             | inl l ↦ inl (omega (arith, undone-set done u (rw (I .flags, ← I .nodes) (o .0)) (o .2)))
@@ -164,29 +173,25 @@ module _ (n : ℕ) (es : List Edge) (weights : Weights es) (inside : Inside n es
           ]
         ]
 
-  abbrev noNode : List Float → Nearest
-  noNode ds = record { node = length ds; distance = infinity }
-
-  beyond : (ds : List Float) (v : ℕ) → length ds ≤ v → distanceAt ds v ≡ infinity
-  beyond ds v h = List·getD-eq-default ds infinity h
-
+  -- so `pick` chooses
   chosen : (ds : List Float) (done : List Bool) → Invariant n es s ds done → (p : Nearest) → Picked ds done 0 (noNode ds) p → Chosen ds done (p .node) (p .distance)
-  chosen ds done I p P = record { far = far'; least = least'; most = most'; own = own' (P .which) }
+  chosen ds done I p P = record { nonneg = nonneg'; least = least'; most = most'; node = node' (P .which) }
     where
-      own' : (p ≡ noNode ds) ⊎ ((j : ℕ) × (j < length ds) × (p .node ≡ 0 + j) × (p .distance ≡ distanceAt ds j) × Open done j)
-          → Own ds done (p .node) (p .distance)
-      own' (inl e) = inl (ap (λ (r : Nearest). r .node) e, ap (λ (r : Nearest). r .distance) e)
-      own' (inr w) = let e : p .node ≡ w .0 = omega (arith, w .2) in inr (rw e (w .1), rw e (w .3), rw e (w .4))
+      node' : (p ≡ noNode ds) ⊎ ((j : ℕ) × (j < length ds) × (p .node ≡ 0 + j) × (p .distance ≡ distanceAt ds j) × Open done j)
+          → NodeOrNone ds done (p .node) (p .distance)
+      node' (inl e) = inl (ap (λ (r : Nearest). r .node) e, ap (λ (r : Nearest). r .distance) e)
+      node' (inr w) = let e : p .node ≡ w .0 = omega (arith, w .2) in inr (rw e (w .1), rw e (w .3), rw e (w .4))
 
-      far' : Nonneg binary64 (p .distance)
-      far' = elim (own' (P .which)) [ inl o ↦ rw (o .1) (inf-nonneg binary64) | inr o ↦ rw (o .1) (I .nonneg (p .node)) ]
+      nonneg' : Nonneg binary64 (p .distance)
+      nonneg' = elim (node' (P .which)) [ inl o ↦ rw (o .1) (inf-nonneg binary64) | inr o ↦ rw (o .1) (I .nonneg (p .node)) ]
 
       least' : (v : ℕ) → Open done v → key binary64 (p .distance) ≤ keyAt ds v
-      least' v o = elim (decLe (suc v) (length ds)) [ yes l ↦ P .least v l o | no m ↦ rw (beyond ds v (omega arith)) (key-top binary64 (p .distance) far') ]
+      least' v o = elim (decLe (suc v) (length ds)) [ yes l ↦ P .least v l o | no m ↦ rw (beyond ds v (omega arith)) (key-top binary64 (p .distance) nonneg') ]
 
       most' : (v : ℕ) → Done done v → keyAt ds v ≤ key binary64 (p .distance)
-      most' v h = elim (own' (P .which)) [ inl o ↦ rw (o .1) (key-top binary64 (distanceAt ds v) (I .nonneg v)) | inr o ↦ rw (o .1) (I .order v (p .node) h (o .2)) ]
+      most' v h = elim (node' (P .which)) [ inl o ↦ rw (o .1) (key-top binary64 (distanceAt ds v) (I .nonneg v)) | inr o ↦ rw (o .1) (I .order v (p .node) h (o .2)) ]
 
+  -- k rounds are enough for k nodes that are not done
   rounds : (k : ℕ) (ds : List Float) (done : List Bool) → Invariant n es s ds done → (undone done ≤ k) ⊎ Settled ds done
       → (all : List Bool) × Invariant n es s (dijkstra k es ds done) all × Settled (dijkstra k es ds done) all
   unfolding dijkstra
@@ -232,7 +237,7 @@ module _ (n : ℕ) (es : List Edge) (weights : Weights es) (inside : Inside n es
       first : (v : ℕ) → ((v ≡ s) × (distanceAt (set (replicate n infinity) s zeroLength) v ≡ zeroLength)) ⊎ (distanceAt (set (replicate n infinity) s zeroLength) v ≡ infinity)
       first v = elim (set-cases (replicate n infinity) s zeroLength infinity v) [ inl p ↦ inl p | inr q ↦ inr (q ∙ same n v infinity) ]
 
--- the distances from s are the least costs
+-- The distances from s are the least costs, whatever the order of the edges. A node with no way to it, and any v that is no node, is at infinity.
 pub least-distance : (n : ℕ) (es : List Edge) → Weights es → Inside n es → (s : ℕ) → s < n → (v : ℕ) → Least es s v (distanceAt (distances n es s) v)
 unfolding distances
 least-distance n es weights inside s h v =

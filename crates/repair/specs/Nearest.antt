@@ -10,7 +10,7 @@ use lib.ListN.{length, getD}
 use lib.Ieee.{Float, binary64, lt}
 use Rattle.sums.specs.Key.{Nonneg, key}
 use Rattle.repair.specs.Distance.{distanceAt, Nearest, pick}
-use Rattle.repair.specs.Relax.{keyAt, Distances, lt-true, lt-false}
+use Rattle.repair.specs.Relax.{keyAt, AllNonneg, lt-true, lt-false}
 
 abbrev pub Done : List Bool → ℕ → Type 0
 Done done v = getD done v false ≡ true
@@ -33,7 +33,7 @@ module _ (d : Float) (ds : List Float) (b : Bool) (done : List Bool) (v : ℕ) (
   all first zero l o = first o
   all first (suc j) l o = P .least j (le-of-suc-le-suc l) o
 
-pub pick-is : (ds : List Float) (done : List Bool) (v : ℕ) (best : Nearest) → length done ≡ length ds → Distances ds → Nonneg binary64 (best .distance)
+pub pick-is : (ds : List Float) (done : List Bool) (v : ℕ) (best : Nearest) → length done ≡ length ds → AllNonneg ds → Nonneg binary64 (best .distance)
     → Picked ds done v best (pick ds done v best)
 unfolding pick
 pick-is [] done v best h g n = record { low = le-refl _; least = λ j l. absurd (not-suc-le-zero l); which = inl refl }

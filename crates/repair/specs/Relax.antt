@@ -21,8 +21,8 @@ use Rattle.repair.specs.Cost.{Weights}
 abbrev pub keyAt : List Float → ℕ → ℕ
 keyAt ds v = key binary64 (distanceAt ds v)
 
-abbrev pub Distances : List Float → Type 0
-Distances ds = (x : ℕ) → Nonneg binary64 (distanceAt ds x)
+abbrev pub AllNonneg : List Float → Type 0
+AllNonneg ds = (x : ℕ) → Nonneg binary64 (distanceAt ds x)
 
 pub lt-true : (x y : Float) → Nonneg binary64 x → Nonneg binary64 y → lt x y ≡ true → key binary64 x < key binary64 y
 lt-true x y p q h = ltb-true (key binary64 x) (key binary64 y) (sym (lt-key binary64 x y p q) ∙ h)
@@ -52,12 +52,12 @@ kept : {P : ℕ → Float → Type 0} {ds : List Float} → ((x : ℕ) (c : Floa
 kept h = record { same = refl; change = λ x. inl refl; taken = λ x c o l. h x c o }
 
 module _ {P : ℕ → Float → Type 0} {old new : List Float} (I : Improved P old new) where
-  pub still-nonneg : Distances old → ((x : ℕ) (c : Float) → P x c → Nonneg binary64 c) → Distances new
+  pub still-nonneg : AllNonneg old → ((x : ℕ) (c : Float) → P x c → Nonneg binary64 c) → AllNonneg new
   still-nonneg g offers x = elim (I .change x) [ inl h ↦ rw h (g x) | inr q ↦ offers x (distanceAt new x) (q .0) ]
 
-  -- the same offers, said in another way
-  said-as : {Q : ℕ → Float → Type 0} → ((x : ℕ) (c : Float) → P x c ↔ Q x c) → Improved Q old new
-  said-as f =
+  -- the same offers in other words
+  offers-iff : {Q : ℕ → Float → Type 0} → ((x : ℕ) (c : Float) → P x c ↔ Q x c) → Improved Q old new
+  offers-iff f =
       record {
         same = I .same;
         change = λ x. elim (I .change x) [ inl h ↦ inl h | inr q ↦ inr (f x (distanceAt new x) .0 (q .0), q .1) ];
@@ -65,8 +65,8 @@ module _ {P : ℕ → Float → Type 0} {old new : List Float} (I : Improved P o
       }
 
   -- more offers after these
-  then : {Q : ℕ → Float → Type 0} {last : List Float} → Improved Q new last → Improved (λ x c. P x c ⊎ Q x c) old last
-  then J =
+  and-then : {Q : ℕ → Float → Type 0} {last : List Float} → Improved Q new last → Improved (λ x c. P x c ⊎ Q x c) old last
+  and-then J =
       record {
         same = J .same ∙ I .same;
         change = λ x. elim (J .change x) [
@@ -77,7 +77,7 @@ module _ {P : ℕ → Float → Type 0} {old new : List Float} (I : Improved P o
       }
 
 -- ---- one cost offered for one node
-improve-is : (ds : List Float) (v : ℕ) (c : Float) → Distances ds → Nonneg binary64 c → Improved (λ x k. (x ≡ v) × (k ≡ c)) ds (improve ds v c)
+improve-is : (ds : List Float) (v : ℕ) (c : Float) → AllNonneg ds → Nonneg binary64 c → Improved (λ x k. (x ≡ v) × (k ≡ c)) ds (improve ds v c)
 unfolding improve
 improve-is ds v c g n = go (lt c (distanceAt ds v)) refl
   where
@@ -91,15 +91,15 @@ improve-is ds v c g n = go (lt c (distanceAt ds v)) refl
     go false h = kept (λ x k o. rw (o .0, o .1) (lt-false c (distanceAt ds v) n (g v) h))
 
 -- an edge that leads from a to b: its offer counts where a is u, which is at the distance d
-abbrev Along : ℕ → Float → ℕ → ℕ → Float → ℕ → Float → Type 0
-Along u d a b w x c = (a ≡ u) × (b ≡ x) × (c ≡ add binary64 d w)
+abbrev Offered : ℕ → Float → ℕ → ℕ → Float → ℕ → Float → Type 0
+Offered u d a b w x c = (a ≡ u) × (b ≡ x) × (c ≡ add binary64 d w)
 
-relax-is : (u : ℕ) (d : Float) (a b : ℕ) (w : Float) (ds : List Float) → Distances ds → Nonneg binary64 d → Nonneg binary64 w → Improved (Along u d a b w) ds (relax u d a b w ds)
+relax-is : (u : ℕ) (d : Float) (a b : ℕ) (w : Float) (ds : List Float) → AllNonneg ds → Nonneg binary64 d → Nonneg binary64 w → Improved (Offered u d a b w) ds (relax u d a b w ds)
 unfolding relax
 relax-is u d a b w ds g n m = go (eqb a u) refl
   where
-    go : (t : Bool) → eqb a u ≡ t → Improved (Along u d a b w) ds (elim t [ true ↦ improve ds b (add binary64 d w) | false ↦ ds ])
-    go true h = said-as (improve-is ds b (add binary64 d w) g (add-nonneg binary64 d w n m)) (λ x c. (λ o. (eqb-true a u h, sym (o .0), o .1), λ o. (sym (o .1), o .2)))
+    go : (t : Bool) → eqb a u ≡ t → Improved (Offered u d a b w) ds (elim t [ true ↦ improve ds b (add binary64 d w) | false ↦ ds ])
+    go true h = offers-iff (improve-is ds b (add binary64 d w) g (add-nonneg binary64 d w n m)) (λ x c. (λ o. (eqb-true a u h, sym (o .0), o .1), λ o. (sym (o .1), o .2)))
     go false h = kept (λ x c o. absurd (eqb-false a u h (o .0)))
 
 -- ---- all edges of u
@@ -109,15 +109,15 @@ abbrev pub Next : ℕ → Float → List Edge → ℕ → Float → Type 0
 Next u d es x c = (e : Edge) × In e es × Joins e u x × (c ≡ add binary64 d (e .weight))
 
 next-iff : (u : ℕ) (d : Float) (e : Edge) (es : List Edge) (x : ℕ) (c : Float)
-    → ((Along u d (e .a) (e .b) (e .weight) x c ⊎ Along u d (e .b) (e .a) (e .weight) x c) ⊎ Next u d es x c) ↔ Next u d (e ∷ es) x c
+    → ((Offered u d (e .a) (e .b) (e .weight) x c ⊎ Offered u d (e .b) (e .a) (e .weight) x c) ⊎ Next u d es x c) ↔ Next u d (e ∷ es) x c
 next-iff u d e es x c = (to, λ o. from (o .0) (o .1) (o .2) (o .3))
   where
-    to : (Along u d (e .a) (e .b) (e .weight) x c ⊎ Along u d (e .b) (e .a) (e .weight) x c) ⊎ Next u d es x c → Next u d (e ∷ es) x c
+    to : (Offered u d (e .a) (e .b) (e .weight) x c ⊎ Offered u d (e .b) (e .a) (e .weight) x c) ⊎ Next u d es x c → Next u d (e ∷ es) x c
     to (inl (inl o)) = (e, inl refl, inl (o .0, o .1), o .2)
     to (inl (inr o)) = (e, inl refl, inr (o .1, o .0), o .2)
     to (inr o) = (o .0, inr (o .1), o .2, o .3)
 
-    from : (f : Edge) → In f (e ∷ es) → Joins f u x → c ≡ add binary64 d (f .weight) → (Along u d (e .a) (e .b) (e .weight) x c ⊎ Along u d (e .b) (e .a) (e .weight) x c) ⊎ Next u d es x c
+    from : (f : Edge) → In f (e ∷ es) → Joins f u x → c ≡ add binary64 d (f .weight) → (Offered u d (e .a) (e .b) (e .weight) x c ⊎ Offered u d (e .b) (e .a) (e .weight) x c) ⊎ Next u d es x c
     from f (inl h) (inl j) k = inl (inl (rw (← h) (j .0, j .1, k)))
     from f (inl h) (inr j) k = inl (inr (rw (← h) (j .1, j .0, k)))
     from f (inr i) j k = inr (f, i, j, k)
@@ -126,7 +126,7 @@ module _ (u : ℕ) (d : Float) (n : Nonneg binary64 d) where
   pub next-nonneg : (es : List Edge) → Weights es → (x : ℕ) (c : Float) → Next u d es x c → Nonneg binary64 c
   next-nonneg es weights x c o = rw (o .3) (add-nonneg binary64 d (o .0 .weight) n (weights (o .0) (o .1)))
 
-  pub relaxAll-is : (es : List Edge) (ds : List Float) → Weights es → Distances ds → Improved (Next u d es) ds (relaxAll u d es ds)
+  pub relaxAll-is : (es : List Edge) (ds : List Float) → Weights es → AllNonneg ds → Improved (Next u d es) ds (relaxAll u d es ds)
   unfolding relaxAll
   relaxAll-is [] ds weights g = kept (λ x c o. absurd (o .1))
   relaxAll-is (e ∷ es) ds weights g =
@@ -136,4 +136,4 @@ module _ (u : ℕ) (d : Float) (n : Nonneg binary64 d) where
       let g' = still-nonneg I g (λ x c o. rw (o .2) sum) in
       let J = relax-is u d (e .b) (e .a) (e .weight) (relax u d (e .a) (e .b) (e .weight) ds) g' n m in
       let K = relaxAll-is es _ (λ f i. weights f (inr i)) (still-nonneg J g' (λ x c o. rw (o .2) sum)) in
-      said-as (then (then I J) K) (next-iff u d e es)
+      offers-iff (and-then (and-then I J) K) (next-iff u d e es)
