@@ -7,7 +7,7 @@ use lib.Dec.{eqb, leb, ltb}
 use Rattle.grid.specs.Grid.{readPlace, readOnGrid}
 use Rattle.grid.specs.declared.Place.{Place}
 use Rattle.grid.specs.declared.Place.the-variants.{On, Off}
-use Rattle.drawing.specs.Limits.{mostBytes, mostSide, mostPairing, mostFlags, mostLines, mostPoints, mostLinks}
+use Rattle.limits.specs.Limits.{mostBytes, mostSide, mostPairing, mostFlags, mostLines, mostPoints, mostLinks}
 use Rattle.drawing.specs.Bytes.{number}
 use Rattle.drawing.specs.Refusal.{Condition, condition}
 use Rattle.drawing.specs.Drawing.{Point, Settings, End, Link, Drawing}

@@ -10,7 +10,6 @@ use lib.Ieee.Exact.{HasValue}
 use lib.Ieee.Bits.{is-true}
 use borrow.Author.Tests.{le-leb, eq-eqb}
 use lib.Ieee.Fits.{and-l, and-r, eq→eqb, down-pos}
-use Rattle.grid.specs.declared.Place.{Place}
 use Rattle.grid.specs.declared.Place.the-variants.{On, Off}
 use Rattle.grid.specs.Grid.{originOfGrid, placeOfSteps, placeOnGrid}
 

@@ -6,7 +6,7 @@ use lib.ListN.{length, drop}
 use lib.Dec.{eqb, ltb}
 use lib.Ieee.{Float, binary64, toBits}
 use Rattle.grid.specs.Grid.{writePlace, writeOnGrid}
-use Rattle.drawing.specs.Limits.{mostOdd}
+use Rattle.limits.specs.Limits.{mostOdd}
 use Rattle.drawing.specs.Bytes.{bytes}
 use Rattle.drawing.specs.Drawing.{Point, Settings, Drawing}
 use Rattle.drawing.specs.Refusal.{Condition, condition, Verdict, refused, accepted, verdict}

@@ -8,7 +8,7 @@ use mathlib.Core.Bool.{Bool, true, false}
 use lib.ListN.{length}
 use lib.Dec.{leb}
 use borrow.Author.Tests.{leb-true}
-use Rattle.drawing.specs.Limits.{mostEdges}
+use Rattle.limits.specs.Limits.{mostEdges}
 use Rattle.graph.specs.Graph.{Edge}
 use Rattle.graph.specs.Degree.{hit, degree}
 use Rattle.graph.specs.Count.{sumOver, lineSum, joint, joining}

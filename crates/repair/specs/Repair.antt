@@ -6,7 +6,7 @@ use lib.ListN.{length, getD}
 use lib.Dec.{eqb, leb, ltb}
 use lib.Ieee.{Float, binary64, add}
 use Rattle.drawing.specs.Drawing.{Point, Settings, optimal, closing}
-use Rattle.drawing.specs.Limits.{mostEdges}
+use Rattle.limits.specs.Limits.{mostEdges}
 use Rattle.graph.specs.Graph.{Edge, Graph}
 use Rattle.graph.specs.Degree.{oddNodes, oddFrom}
 use Rattle.repair.specs.Distance.{distances, distanceAt, infinity, zeroLength}

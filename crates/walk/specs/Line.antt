@@ -4,7 +4,7 @@ use mathlib.Core.List.{List, [], _∷_, _++_, map, reverse}
 use mathlib.Core.Bool.{Bool, true, false}
 use lib.ListN.{length, getD, drop}
 use lib.Dec.{eqb, ltb}
-use Rattle.center.specs.Center.{fromCenter, better}
+use Rattle.center.specs.Center.{fromCenter, fromCenterOnGrid, better}
 use Rattle.drawing.specs.Drawing.{Point, Settings, inside}
 use Rattle.graph.specs.Graph.{Edge, edge}
 pub use Rattle.graph.specs.Graph.{pointAt}
@@ -17,7 +17,7 @@ use Rattle.walk.specs.Walk.{By, start, Entry, circuit}
 
 -- the squared distance from the canvas centre, in half steps
 unfoldable pub distance : Settings → Point → ℕ
-unfolding fromCenter
+unfolding fromCenterOnGrid
 distance s p = fromCenter (s .width) (s .height) (p .x) (p .y)
 
 -- the best of v and the others, v where none of them is strictly better
