@@ -1,5 +1,4 @@
 -- The drawing file: what is in it, and checks 1 to 8 of document 01.
-pub mod Limits
 pub mod Members
 pub mod Bytes
 pub mod Drawing
