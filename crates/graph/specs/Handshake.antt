@@ -13,11 +13,14 @@ use Rattle.graph.specs.Degree.{one, hit, degree, isOdd, oddFrom, oddNode
 use Rattle.graph.specs.Ways.{Inside}
 use Rattle.graph.specs.Sums.{hit-other}
 
--- u is v and hits it once, or is another and does not
-pub hit-cases : (u v : ℕ) → ((u ≡ v) × (hit u v ≡ 1)) ⊎ ((u ≡ v → ⊥) × (hit u v ≡ 0))
+-- u is v and counts once, or is another and does not count
+abbrev pub HitCases : ℕ → ℕ → Type 0
+HitCases u v = ((u ≡ v) × (hit u v ≡ 1)) ⊎ ((u ≡ v → ⊥) × (hit u v ≡ 0))
+
+pub hit-cases : (u v : ℕ) → HitCases u v
 hit-cases u v = go (eqb u v) refl
   where
-    go : (t : Bool) → eqb u v ≡ t → ((u ≡ v) × (hit u v ≡ 1)) ⊎ ((u ≡ v → ⊥) × (hit u v ≡ 0))
+    go : (t : Bool) → eqb u v ≡ t → HitCases u v
     go true e = inl (eqb-true u v e, ap one e)
     go false e = inr (eqb-false u v e, ap one e)
 
@@ -31,12 +34,13 @@ unfolding sumFrom
 sum-add f g zero v = refl
 sum-add f g (suc n) v = omega (arith, sum-add f g n (suc v))
 
+-- weights that are equal there have equal sums
 pub sum-same : (f g : ℕ → ℕ) (n v : ℕ) → ((u : ℕ) → v ≤ u → u < v + n → f u ≡ g u) → sumFrom f n v ≡ sumFrom g n v
 unfolding sumFrom
 sum-same f g zero v h = refl
 sum-same f g (suc n) v h = ap₂ (λ (a b : ℕ). a + b) (h v (omega arith) (omega arith)) (sum-same f g n (suc v) (λ u a b. h u (omega arith) (omega arith)))
 
--- each of the nodes is hit once by itself
+-- a node counts once if it is among them, and not at all if it stands before them
 sum-miss : (u n v : ℕ) → u < v → sumFrom (hit u) n v ≡ 0
 unfolding sumFrom
 sum-miss u zero v h = refl
@@ -47,7 +51,7 @@ unfolding sumFrom
 sum-hit u zero v h k = absurd (omega arith)
 sum-hit u (suc n) v h k = go (hit-cases u v) (λ l. sum-hit u n (suc v) l (omega arith))
   where
-    go : ((u ≡ v) × (hit u v ≡ 1)) ⊎ ((u ≡ v → ⊥) × (hit u v ≡ 0)) → (v < u → sumFrom (hit u) n (suc v) ≡ 1) → hit u v + sumFrom (hit u) n (suc v) ≡ 1
+    go : HitCases u v → (v < u → sumFrom (hit u) n (suc v) ≡ 1) → hit u v + sumFrom (hit u) n (suc v) ≡ 1
     go (inl p) r = omega (arith, sum-miss u n (suc v) (omega arith))
     go (inr p) r = omega (arith, r (omega arith))
 
@@ -97,10 +101,10 @@ length-odd es (suc n) v = go (odd-step es n v) (length-odd es n (suc v))
     go (inr p) r = omega (arith, ap length (p .1))
 
 -- a sum has the parity of the sum of the parities
-even-rest : (f : ℕ → ℕ) (n v : ℕ) → (sumFrom f n v + sumFrom (λ (u : ℕ). f u % 2) n v) % 2 ≡ 0
+sum-parity : (f : ℕ → ℕ) (n v : ℕ) → (sumFrom f n v + sumFrom (λ (u : ℕ). f u % 2) n v) % 2 ≡ 0
 unfolding sumFrom
-even-rest f zero v = refl
-even-rest f (suc n) v = omega (arith, even-rest f n (suc v))
+sum-parity f zero v = refl
+sum-parity f (suc n) v = omega (arith, sum-parity f n (suc v))
 
 pub handshake : (n : ℕ) (es : List Edge) → Inside n es → length (oddNodes n es) % 2 ≡ 0
-handshake n es h = omega (arith, length-odd es n 0, even-rest (degree es) n 0, sum-degree n es h)
+handshake n es h = omega (arith, length-odd es n 0, sum-parity (degree es) n 0, sum-degree n es h)

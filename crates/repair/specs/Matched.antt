@@ -17,7 +17,7 @@ use Rattle.repair.specs.Pairs.{ends, AllButTwo}
 
 -- ---- a list without one of its elements
 
--- the test of the first element, as both laws below need it
+-- v is the first element and goes, or is not and goes from the others
 abbrev Without : ℕ → ℕ → List ℕ → Type 0
 Without v u us = ((u ≡ v) × (without v (u ∷ us) ≡ us)) ⊎ ((hit u v ≡ 0) × (without v (u ∷ us) ≡ u ∷ without v us))
 
@@ -47,14 +47,22 @@ without-length v (u ∷ us) h = go (without-step v u us) (λ l. without-length v
     go (inl p) r = omega (arith, ap length (p .1))
     go (inr p) r = omega (arith, ap length (p .1), r (omega arith))
 
--- the first of some elements of vs is one of vs
-stands : (c : ℕ) (cs vs : List ℕ) → ((v : ℕ) → count v (c ∷ cs) ≤ count v vs) → 0 < count c vs
+-- every number stands in cs at most as often as in vs
+abbrev Among : List ℕ → List ℕ → Type 0
+Among cs vs = (v : ℕ) → count v cs ≤ count v vs
+
+-- the first of cs stands in vs; the others are among vs, and among vs without the first
+stands : (c : ℕ) (cs vs : List ℕ) → Among (c ∷ cs) vs → 0 < count c vs
 unfolding count
 stands c cs vs h = omega (arith, h c, hit-same c)
 
-later : (c : ℕ) (cs vs : List ℕ) → ((v : ℕ) → count v (c ∷ cs) ≤ count v vs) → (v : ℕ) → count v cs ≤ count v vs
+later : (c : ℕ) (cs vs : List ℕ) → Among (c ∷ cs) vs → Among cs vs
 unfolding count
 later c cs vs h v = omega (arith, h v)
+
+after-first : (c : ℕ) (cs vs : List ℕ) → Among (c ∷ cs) vs → Among cs (without c vs)
+unfolding count
+after-first c cs vs sub v = omega (arith, sub v, without-count c vs v (stands c cs vs sub))
 
 -- ---- choices: what holds of every pairing tried holds of the one chosen
 
@@ -81,14 +89,15 @@ cheaper-is P (chosen b) m h p = go (lt (m .cost) (b .cost))
 abbrev pub Whole : List ℕ → List Pair → Type 0
 Whole vs ps = (v : ℕ) → count v (ends ps) ≡ count v vs
 
-with-first : (u c : ℕ) (cs vs : List ℕ) (ps : List Pair) → ((v : ℕ) → count v (c ∷ cs) ≤ count v vs) → (0 < count c vs → Whole (without c vs) ps) → Whole (u ∷ vs) (pair u c ∷ ps)
+-- the first node with c, the others by ps
+with-first : (u c : ℕ) (cs vs : List ℕ) (ps : List Pair) → Among (c ∷ cs) vs → (0 < count c vs → Whole (without c vs) ps) → Whole (u ∷ vs) (pair u c ∷ ps)
 unfolding count ends
 with-first u c cs vs ps sub w v = let h = stands c cs vs sub in omega (arith, w h v, without-count c vs v h)
 
 -- u with each of cs, which are among vs, in turn
 partner-is : (others : List ℕ → Matching) (from : ℕ → Float) (u : ℕ) (vs cs : List ℕ) (best : Choice)
     → ((v : ℕ) → 0 < count v vs → Whole (without v vs) (others (without v vs) .pairs))
-    → ((v : ℕ) → count v cs ≤ count v vs)
+    → Among cs vs
     → Chosen (λ (m : Matching). Whole (u ∷ vs) (m .pairs)) best
     → Chosen (λ (m : Matching). Whole (u ∷ vs) (m .pairs)) (partner others from u vs cs best)
 unfolding partner
@@ -97,7 +106,7 @@ partner-is others from u vs (c ∷ cs) best all sub b =
     partner-is others from u vs cs _ all (later c cs vs sub)
     (cheaper-is (λ (m : Matching). Whole (u ∷ vs) (m .pairs)) best _ b (with-first u c cs vs _ sub (all c)))
 
--- for k at least the number of nodes
+-- matchAll leaves none out, for k at least the number of nodes
 pub match-all : (k : ℕ) (d : ℕ → ℕ → Float) (vs : List ℕ) → length vs ≤ k → length vs % 2 ≡ 0 → Whole vs (matchAll k d vs .pairs)
 unfolding matchAll partner cheaper ends count
 match-all zero d [] h e = λ v. refl
@@ -108,30 +117,27 @@ match-all (suc k) d (u ∷ w ∷ ws) h e =
     let vs = w ∷ ws in
     let all : (v : ℕ) → 0 < count v vs → Whole (without v vs) (matchAll k d (without v vs) .pairs)
     = λ v l. match-all k d (without v vs) (omega (arith, without-length v vs l)) (omega (arith, without-length v vs l)) in
-    let sub : (v : ℕ) → count v vs ≤ count v vs = λ v. omega arith in
+    let sub : Among vs vs = λ v. omega arith in
     let others : List ℕ → Matching = λ l. matchAll k d l in
     chosen-is (λ (m : Matching). Whole (u ∷ vs) (m .pairs)) (partner others (d u) u vs vs none)
     (partner-is others (d u) u vs ws _ all (later w ws vs sub) (with-first u w ws vs (others (without w vs) .pairs) sub (all w)))
 
 -- ---- all nodes but two
 
--- vs without each of `rest`, which are among vs, in turn
+-- what holds of the pairing of vs without any one node holds of the one chosen
 leave-with : (P : Matching → Type 0) (k : ℕ) (d : ℕ → ℕ → Float) (vs rest : List ℕ) (best : Choice)
     → ((v : ℕ) → 0 < count v vs → P (matchAll k d (without v vs)))
-    → ((v : ℕ) → count v rest ≤ count v vs)
+    → Among rest vs
     → Chosen P best → Chosen P (leaveWith k d vs rest best)
 unfolding leaveWith
 leave-with P k d vs [] best all sub b = b
 leave-with P k d vs (c ∷ cs) best all sub b =
     leave-with P k d vs cs _ all (later c cs vs sub) (cheaper-is P best _ b (all c (stands c cs vs sub)))
 
-after-first : (c : ℕ) (cs vs : List ℕ) → ((v : ℕ) → count v (c ∷ cs) ≤ count v vs) → (v : ℕ) → count v cs ≤ count v (without c vs)
-unfolding count
-after-first c cs vs sub v = omega (arith, sub v, without-count c vs v (stands c cs vs sub))
-
+-- and the same without any two
 leave-two : (P : Matching → Type 0) (k : ℕ) (d : ℕ → ℕ → Float) (vs rest : List ℕ) (best : Choice)
     → ((u v : ℕ) → 0 < count u vs → 0 < count v (without u vs) → P (matchAll k d (without v (without u vs))))
-    → ((v : ℕ) → count v rest ≤ count v vs)
+    → Among rest vs
     → Chosen P best → Chosen P (leaveTwo k d vs rest best)
 unfolding leaveTwo
 leave-two P k d vs [] best all sub b = b
@@ -139,6 +145,7 @@ leave-two P k d vs (c ∷ cs) best all sub b =
     leave-two P k d vs cs _ all (later c cs vs sub)
     (leave-with P k d (without c vs) cs best (λ v. all c v (stands c cs vs sub)) (after-first c cs vs sub) b)
 
+-- Optimal uses all nodes but two
 pub optimal-pairs : (d : ℕ → ℕ → Float) (vs : List ℕ) → 2 ≤ length vs → length vs % 2 ≡ 0 → AllButTwo vs (optimalPairs d vs)
 unfolding optimalPairs leaveTwo leaveWith cheaper
 optimal-pairs d [] l e = absurd (omega arith)
@@ -161,10 +168,10 @@ optimal-pairs d (u ∷ w ∷ ws) l e = chosen-is P (leaveTwo n d vs vs none) (le
         let m = match-all n d (without y (without x vs)) (omega arith) (omega arith) in
         record { x = x; y = y; counts = λ v. omega (arith, m v, without-count y (without x vs) v k, without-count x vs v h) }
 
-    sub : (v : ℕ) → count v vs ≤ count v vs
+    sub : Among vs vs
     sub v = omega arith
 
-    rest : (v : ℕ) → count v (w ∷ ws) ≤ count v (without u vs)
+    rest : Among (w ∷ ws) (without u vs)
     rest = after-first u (w ∷ ws) vs sub
 
     with-u : (v : ℕ) → 0 < count v (without u vs) → P (matchAll n d (without v (without u vs)))

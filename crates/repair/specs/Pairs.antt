@@ -27,14 +27,20 @@ pub record AllButTwo (vs : List ℕ) (ps : List Pair) : Type 0 where
   pub y : ℕ
   pub counts : (v : ℕ) → count v (ends ps) + hit x v + hit y v ≡ count v vs
 
--- ---- the place of the last
+-- ---- the last takes the place of the one that goes
 
+pub swap-length : (vs : List ℕ) (i : ℕ) → length (swapRemove vs i) ≡ length vs - 1
+unfolding swapRemove
+swap-length vs i = simp (length-take, length-set) (omega arith)
+
+-- x takes the place of the element at i
 count-set : (v : ℕ) (vs : List ℕ) (i x : ℕ) → i < length vs → count v (set vs i x) + hit (getD vs i 0) v ≡ count v vs + hit x v
 unfolding count
 count-set v [] i x h = absurd (omega arith)
 count-set v (u ∷ us) zero x h = omega arith
 count-set v (u ∷ us) (suc i) x h = omega (arith, count-set v us i x (le-of-suc-le-suc h))
 
+-- the last goes
 count-take : (v : ℕ) (vs : List ℕ) (n : ℕ) → length vs ≡ suc n → count v (take n vs) + hit (getD vs n 0) v ≡ count v vs
 unfolding count
 count-take v [] n h = absurd (omega arith)
@@ -42,6 +48,7 @@ count-take v (u ∷ []) zero h = omega arith
 count-take v (u ∷ w ∷ us) zero h = absurd (omega arith)
 count-take v (u ∷ us) (suc n) h = omega (arith, count-take v us n (omega arith))
 
+-- the last stays the last where it takes another place, its own too
 getD-set-last : (vs : List ℕ) (i n : ℕ) → n < length vs → getD (set vs i (getD vs n 0)) n 0 ≡ getD vs n 0
 getD-set-last vs i n h = go (ℕ-discrete n i)
   where
@@ -61,10 +68,6 @@ swap-count v vs i h =
       count-take v (set vs i last) n (length-set vs i last ∙ omega arith),
       ap (λ (x : ℕ). hit x v) (getD-set-last vs i n (omega arith)),
     )
-
-pub swap-length : (vs : List ℕ) (i : ℕ) → length (swapRemove vs i) ≡ length vs - 1
-unfolding swapRemove
-swap-length vs i = simp (length-take, length-set) (omega arith)
 
 -- those in front of it stay
 pub swap-before : (vs : List ℕ) (i j : ℕ) → i < j → j < length vs → getD (swapRemove vs j) i 0 ≡ getD vs i 0
@@ -113,7 +116,7 @@ two-left (x ∷ []) h = absurd (omega arith)
 two-left (x ∷ y ∷ []) h = record { x = x; y = y; counts = λ v. omega arith }
 two-left (x ∷ y ∷ z ∷ vs) h = absurd (omega arith)
 
--- a pair goes, the rest is paired
+-- the nodes at i and j are paired, and ps are the pairs of the others
 one-more : (vs : List ℕ) (i j : ℕ) (ps : List Pair) → i < j → j < length vs
     → AllButTwo (swapRemove (swapRemove vs j) i) ps → AllButTwo vs (pair (getD vs i 0) (getD vs j 0) ∷ ps)
 unfolding count ends
@@ -129,7 +132,7 @@ one-more vs i j ps h k r = record {
   );
 }
 
--- for k at least the number of nodes
+-- Greedy uses all nodes but two, for k at least the number of nodes
 pub greedy-pairs : (k : ℕ) (ns : List Point) (vs : List ℕ) → length vs ≤ k → 2 ≤ length vs → length vs % 2 ≡ 0 → AllButTwo vs (greedyPairs k ns vs)
 unfolding greedyPairs
 greedy-pairs zero ns vs h l e = absurd (omega arith)

@@ -16,7 +16,7 @@ use Rattle.graph.specs.Degree.{hit, degree, oddNodes}
 use Rattle.graph.specs.Ways.{Inside}
 use Rattle.graph.specs.Sums.{hit-same}
 use Rattle.graph.specs.Handshake.{handshake, sum-add, sum-same, sum-none, sum-hit, length-odd}
-use Rattle.graph.specs.Occurs.{count, count-odd, count-past, two-odd}
+use Rattle.graph.specs.Occurs.{count, count-odd, count-outside, two-odd}
 use Rattle.repair.specs.Distance.{zeroLength}
 use Rattle.repair.specs.Pairing.{Pair, pair, greedyPairs, optimalPairs}
 use Rattle.repair.specs.Repair.{Repair, Repairing, stopped, repaired, applyMatching, rows, distanceIn, pairsOf, close, closeIf, drawn, fixParity}
@@ -55,7 +55,7 @@ pair-of (x ∷ y ∷ z ∷ vs) h v = absurd (omega arith)
 -- ---- parities: fs has those of es but for the nodes of the pairs ps
 
 odd-below : (n : ℕ) (es : List Edge) (v : ℕ) → 0 < count v (oddNodes n es) → v < n
-odd-below n es v h = lt-of-not-le (λ l. omega (arith, count-past es n v 0 (omega arith)))
+odd-below n es v h = lt-of-not-le (λ l. omega (arith, count-outside es n v 0 (λ u a b q. omega arith)))
 
 module _ (n : ℕ) (es fs : List Edge) (ps : List Pair) (flips : (v : ℕ) → (degree fs v + degree es v + count v (ends ps)) % 2 ≡ 0) where
   -- where the pairs use all odd nodes but two, those two are left odd
