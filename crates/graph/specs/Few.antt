@@ -96,7 +96,7 @@ unfolding buildGraph
 built-few d =
     omega (arith, length-map (strokesOf d) (edgeOf (buildGraph d .nodes)), length-append (piecesOf d) (linksOf d), lines-length (d .links) 0 (d .lines), links-length (d .links))
 
--- with check 6, so few that a line along them, and along copies of them, fits the 4-byte length of a record
+-- after check 6 they are below 2 ^ 20
 pub counted-few : (d : Drawing) → Counts d → length (buildGraph d .edges) < 2 ^ 20
 counted-few d c =
     let splits : 2 * length (d .links) + 1 ≤ 511 = omega (arith, c .links) in

@@ -13,7 +13,7 @@ use Rattle.grid.specs.Back.{read-write, write-is, coordinate-is}
 use Rattle.grid.specs.declared.Place.{Place}
 use Rattle.grid.specs.declared.Place.the-variants.{On}
 use Rattle.drawing.specs.Bytes.{number, bytes}
-use Rattle.drawing.specs.Back.{bytes-length, number-bytes, drop-bytes}
+use Rattle.drawing.specs.Back.{number-bytes, drop-bytes}
 use Rattle.drawing.specs.Drawing.{Point}
 use Rattle.drawing.specs.Members.{All}
 use Rattle.drawing.specs.OnGrid.{OnGrid}
