@@ -1,8 +1,7 @@
 -- The graph of a drawing has an edge between two nodes for every stroke between their points, and no other edge.
 use mathlib.Core.Path.{_≡_, refl, sym, ap, _∙_}
 use mathlib.Core.Logic.{_⊎_}
-use mathlib.Core.List.{List, [], map}
-use mathlib.Core.Bool.{false}
+use mathlib.Core.List.{[], map}
 use Prim.Native.Nat.{ℕ, _+_, _*_, _^_, _≤_, _<_}
 use native.Mathlib.Nat.{not-suc-le-zero, mul-le-mul}
 use native.Mathlib.Omega.{arith}
@@ -14,7 +13,7 @@ use Rattle.sums.specs.Key.{Nonneg}
 use Rattle.length.specs.Step.{gridExponent}
 use Rattle.length.specs.Root.{apart, square}
 use Rattle.length.specs.Length.{length-nonneg}
-use Rattle.drawing.specs.Drawing.{Point, Drawing, same}
+use Rattle.drawing.specs.Drawing.{Point, Drawing}
 use Rattle.drawing.specs.Same.{differ}
 use Rattle.drawing.specs.Members.{In, All, all-in, all-map, all-imp}
 use Rattle.drawing.specs.OnGrid.{OnGrid, AtEnds}

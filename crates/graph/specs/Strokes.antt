@@ -1,7 +1,7 @@
 -- Strokes and points of use: pieces are the steps of a chain between different points. The two ends of a stroke differ and are points of use, and a point of use is a point
 -- of a line or an end of a link.
 use mathlib.Core.Path.{_≡_, refl, sym, ap, _∙_, subst}
-use mathlib.Core.List.{List, [], _∷_, _++_}
+use mathlib.Core.List.{List, [], _∷_}
 use mathlib.Core.Bool.{Bool, true, false, _&&_, _||_, not, cond}
 use Prim.Native.Nat.{ℕ, suc, _+_}
 use native.Mathlib.Omega.{arith}

@@ -4,3 +4,4 @@ pub mod Words
 pub mod Demand3
 pub mod Samples
 pub mod Written
+pub mod Drawn
