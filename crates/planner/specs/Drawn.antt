@@ -2,15 +2,22 @@
 use mathlib.Core.Path.{_≡_, refl, sym, _∙_}
 use mathlib.Core.Logic.{_⊎_}
 use mathlib.Core.List.{List}
-use Prim.Native.Nat.{ℕ, _+_, _≤_, _<_}
+use Prim.Native.Nat.{ℕ, _+_, _^_, _≤_, _<_}
 use lib.ListN.{length}
+use lib.Ieee.{binary64}
+use Rattle.sums.specs.Key.{Nonneg}
 use Rattle.drawing.specs.Drawing.{Point}
+use Rattle.drawing.specs.Members.{In}
+use Rattle.drawing.specs.Read.{recordsOf}
+use Rattle.drawing.specs.OnGrid.{OnGrid, lines-on, links-on}
+use Rattle.drawing.specs.Accepted.{Fits, counts-fit}
 use Rattle.graph.specs.Chain.{Stroke, piecesOf, linksOf, strokesOf}
-use Rattle.graph.specs.Graph.{nodeOf, pointAt, buildGraph}
+use Rattle.graph.specs.Graph.{Edge, nodeOf, pointAt, buildGraph}
 use Rattle.graph.specs.Degree.{degree}
 use Rattle.graph.specs.Count.{lies, touches, joining, strokesBetween, strokesAt}
 use Rattle.graph.specs.Sums.{sumOver-append}
-use Rattle.graph.specs.Built.{built-joining, built-degree, built-none, built-untouched}
+use Rattle.graph.specs.Built.{built-joining, built-degree, built-none, built-untouched, built-on, built-weights}
+use Rattle.graph.specs.Few.{counted-few}
 use Rattle.planner.specs.Plan.{drawingIn, graphIn}
 use Rattle.planner.specs.Words.{piecesBetween, linksBetween, drawnAt}
 
@@ -40,3 +47,18 @@ module _ (file : List ℕ) where
 
   pub nothing-at : (p : Point) → length (graphIn file .nodes) ≤ nodeOf (graphIn file .nodes) p → drawnAt p file ≡ 0
   nothing-at p = rw graph-is (λ h. sym (drawn-at p) ∙ built-untouched (drawingIn file) p h)
+
+  -- ---- whatever the file, nodes are on the grid and no weight is negative
+
+  pub graph-on : (v : ℕ) → OnGrid (pointAt (graphIn file .nodes) v)
+  unfolding drawingIn
+  graph-on = rw graph-is (built-on (drawingIn file) (lines-on (recordsOf file)) (links-on (recordsOf file)))
+
+  pub graph-weights : (e : Edge) → In e (graphIn file .edges) → Nonneg binary64 (e .weight)
+  unfolding drawingIn
+  graph-weights = rw graph-is (built-weights (drawingIn file) (lines-on (recordsOf file)) (links-on (recordsOf file)))
+
+  -- and after check 6 there are few edges
+  pub graph-few : Fits file → length (graphIn file .edges) < 2 ^ 20
+  unfolding drawingIn
+  graph-few f = rw graph-is (counted-few (drawingIn file) (counts-fit (drawingIn file) (f .counts)))
