@@ -1,23 +1,23 @@
 -- A file that meets none of conditions 1 to 8 passes each check, and its points are exactly those that the coordinates' bits stand for.
-use mathlib.Core.Path.{_≡_, refl, sym, ap, _∙_, subst}
+use mathlib.Core.Path.{_≡_, refl, sym, ap, _∙_}
 use mathlib.Core.List.{List, [], _∷_, _++_, map}
 use mathlib.Core.Bool.{Bool, true, false, _&&_, not}
 use Prim.Native.Nat.{ℕ, zero, suc, _*_, _/_, _%_, _≤_}
 use native.Mathlib.Omega.{arith}
 use lib.ListN.{length, drop}
 use lib.Seq.{drop-drop}
-use lib.Dec.{eqb, leb, ltb}
+use lib.Dec.{eqb}
 use borrow.Author.Tests.{ltb-false, leb-true, eqb-true, not-false}
 use Rattle.grid.specs.Grid.{readPlace}
 use Rattle.grid.specs.declared.Place.{Place}
 use Rattle.grid.specs.declared.Place.the-variants.{On, Off}
 use Rattle.limits.specs.Limits.{mostBytes, mostLines, mostPoints, mostLinks}
 use Rattle.drawing.specs.Bytes.{number}
-use Rattle.drawing.specs.Drawing.{Point, Link, Drawing}
+use Rattle.drawing.specs.Drawing.{Point, Drawing}
 use Rattle.drawing.specs.Members.{All, all-imp, all-both}
 use Rattle.drawing.specs.Same.{both}
-use Rattle.drawing.specs.Refusal.{Condition, condition, accepted, refused, verdict}
-use Rattle.drawing.specs.Read.{Record, words, placeAt, onGrid, points, point, lineOf, linkOf, bodies, drawingOf, every, total, kindsFit, lengthsFit, settingsFit, countsFit, coordinatesFit, linksFit, recordsOf, isCut, readConditions}
+use Rattle.drawing.specs.Refusal.{Condition, condition, accepted, verdict}
+use Rattle.drawing.specs.Read.{words, placeAt, onGrid, points, point, lineOf, linkOf, bodies, drawingOf, every, total, kindsFit, lengthsFit, settingsFit, countsFit, coordinatesFit, linksFit, recordsOf, isCut, readConditions}
 
 -- ---- each check passes
 

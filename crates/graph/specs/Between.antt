@@ -1,12 +1,11 @@
 -- What lies between two nodes, counted by points, is what lies between them counted by node numbers; between two points that are not both nodes lies nothing.
-use mathlib.Core.Path.{_≡_, refl, sym, ap, _∙_}
+use mathlib.Core.Path.{_≡_, refl, _∙_}
 use mathlib.Core.Logic.{_⊎_, inl, inr}
 use mathlib.Core.List.{List, [], _∷_, map}
-use mathlib.Core.Bool.{Bool, true, false, _&&_, _||_, and-false}
+use mathlib.Core.Bool.{and-false}
 use Prim.Native.Nat.{ℕ, _+_, _≤_, _<_}
 use native.Mathlib.Omega.{arith}
 use lib.ListN.{length}
-use lib.Dec.{eqb}
 use Rattle.drawing.specs.Drawing.{Point, same}
 use Rattle.drawing.specs.Members.{All}
 use Rattle.graph.specs.Graph.{nodeOf, pointAt}

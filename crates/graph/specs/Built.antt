@@ -1,9 +1,8 @@
 -- The graph of a drawing has an edge between two nodes for every stroke between their points, and no other edge.
 use mathlib.Core.Path.{_≡_, refl, sym, ap, _∙_}
 use mathlib.Core.Logic.{_⊎_}
-use mathlib.Core.List.{List, [], map}
-use mathlib.Core.Bool.{false}
-use Prim.Native.Nat.{ℕ, _+_, _*_, _^_, _≤_, _<_}
+use mathlib.Core.List.{List, [], _∷_, map}
+use Prim.Native.Nat.{ℕ, zero, suc, zero-le, _+_, _*_, _^_, _≤_, _<_}
 use native.Mathlib.Nat.{not-suc-le-zero, mul-le-mul}
 use native.Mathlib.Omega.{arith}
 use lib.ListN.{length}
@@ -14,7 +13,7 @@ use Rattle.sums.specs.Key.{Nonneg}
 use Rattle.length.specs.Step.{gridExponent}
 use Rattle.length.specs.Root.{apart, square}
 use Rattle.length.specs.Length.{length-nonneg}
-use Rattle.drawing.specs.Drawing.{Point, Drawing, same}
+use Rattle.drawing.specs.Drawing.{Point, Drawing}
 use Rattle.drawing.specs.Same.{differ}
 use Rattle.drawing.specs.Members.{In, All, all-in, all-map, all-imp}
 use Rattle.drawing.specs.OnGrid.{OnGrid, AtEnds}
@@ -24,7 +23,7 @@ use Rattle.graph.specs.Degree.{hit, degree}
 use Rattle.graph.specs.Count.{joint, joining, lies, touches, strokesBetween, strokesAt}
 use Rattle.graph.specs.Ways.{Inside}
 use Rattle.graph.specs.Sums.{degree-sum}
-use Rattle.graph.specs.Nodes.{IsNode, Numbered, node-point, uses-numbered, uses-nodes}
+use Rattle.graph.specs.Nodes.{IsNode, Numbered, node-point, uses-numbered, uses-nodes, uses-all}
 use Rattle.graph.specs.Strokes.{Between, strokes-between, uses-of-all}
 use Rattle.graph.specs.Between.{sum-none, sum-map, lies-joint, touches-hit, lies-none, touches-none}
 
@@ -104,6 +103,15 @@ squared-below p q g h =
     let xx : square (apart (p .x) (q .x)) ≤ 2 ^ 46 = mul-le-mul x x in
     let yy : square (apart (p .y) (q .y)) ≤ 2 ^ 46 = mul-le-mul y y in
     omega arith
+
+-- every node is on the grid, and so is the point that stands for a number past the last
+pub built-on : (d : Drawing) → All (All OnGrid) (d .lines) → All (AtEnds OnGrid) (d .links) → (v : ℕ) → OnGrid (pointAt (buildGraph d .nodes) v)
+built-on d l k = at (buildGraph d .nodes) (rw (nodes-are d) (uses-all OnGrid [] (usesOf d) tt (uses-of-all OnGrid d l k)))
+  where
+    at : (ns : List Point) → All OnGrid ns → (v : ℕ) → OnGrid (pointAt ns v)
+    at [] a v = (zero-le, zero-le)
+    at (p ∷ ps) a zero = a .0
+    at (p ∷ ps) a (suc v) = at ps (a .1) v
 
 -- no weight is negative
 pub built-weights : (d : Drawing) → All (All OnGrid) (d .lines) → All (AtEnds OnGrid) (d .links) → (e : Edge) → In e (buildGraph d .edges) → Nonneg binary64 (e .weight)

@@ -1,5 +1,5 @@
 -- How many edges a drawing can have: each end of a link splits a segment at most once.
-use mathlib.Core.List.{List, [], _∷_, _++_, map}
+use mathlib.Core.List.{List, [], _∷_, map}
 use mathlib.Core.Bool.{_&&_, not}
 use Prim.Native.Nat.{ℕ, suc, _+_, _*_, _^_, _≤_, _<_}
 use native.Mathlib.Nat.{mul-le-mul}
@@ -10,7 +10,7 @@ use Rattle.drawing.specs.Drawing.{Point, same, End, Link, Drawing}
 use Rattle.drawing.specs.Members.{either}
 use Rattle.drawing.specs.Read.{total}
 use Rattle.drawing.specs.Accepted.{Counts}
-use Rattle.graph.specs.Chain.{squared, Stroke, stroke, naming, splits, insert, sort, inner, changes, distinct, chain, pieces, linePieces, piecesFrom, piecesOf, linkStrokes, linksOf, strokesOf}
+use Rattle.graph.specs.Chain.{squared, stroke, naming, splits, insert, sort, inner, changes, distinct, chain, pieces, linePieces, piecesFrom, piecesOf, linkStrokes, linksOf, strokesOf}
 use Rattle.graph.specs.Graph.{edgeOf, buildGraph}
 
 abbrev Short : {A : Type 0} → ℕ → List A → Type 0
@@ -96,7 +96,7 @@ unfolding buildGraph
 built-few d =
     omega (arith, length-map (strokesOf d) (edgeOf (buildGraph d .nodes)), length-append (piecesOf d) (linksOf d), lines-length (d .links) 0 (d .lines), links-length (d .links))
 
--- with check 6, so few that a line along them, and along copies of them, fits the 4-byte length of a record
+-- after check 6 they are below 2 ^ 20
 pub counted-few : (d : Drawing) → Counts d → length (buildGraph d .edges) < 2 ^ 20
 counted-few d c =
     let splits : 2 * length (d .links) + 1 ≤ 511 = omega (arith, c .links) in

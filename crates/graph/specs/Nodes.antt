@@ -1,15 +1,14 @@
 -- Nodes: each point has one number, and each point of use is a node.
-use mathlib.Core.Path.{_≡_, refl, sym, ap, _∙_, subst}
-use mathlib.Core.Logic.{_⊎_, inl, inr}
+use mathlib.Core.Path.{_≡_, refl, sym, ap, _∙_}
 use mathlib.Core.List.{List, [], _∷_, _++_}
 use mathlib.Core.Bool.{Bool, true, false}
-use Prim.Native.Nat.{ℕ, zero, suc, _+_, _≤_, _<_}
-use native.Mathlib.Nat.{le-of-suc-le-suc, not-suc-le-zero}
+use Prim.Native.Nat.{ℕ, suc, _≤_, _<_}
+use native.Mathlib.Nat.{not-suc-le-zero}
 use native.Mathlib.Decide.{decLe}
 use native.Mathlib.Omega.{arith}
-use lib.ListN.{length, getD, length-append, List·getD-append}
+use lib.ListN.{length, length-append, List·getD-append}
 use lib.Seq.{getD-append-seam}
-use lib.Dec.{eqb, ltb}
+use lib.Dec.{eqb}
 use borrow.Author.Tests.{lt-ltb, le-ltb, eq-eqb, ne-eqb}
 use Rattle.drawing.specs.Drawing.{Point, same}
 use Rattle.drawing.specs.Same.{same-true, same-refl, same-false, differ}
@@ -88,9 +87,6 @@ module _ (ns : List Point) (N : Numbered ns) where
       go : (t : Bool) → same p (pointAt ns u) ≡ t → t ≡ eqb (nodeOf ns p) u
       go true e = sym (eq-eqb (nodeOf ns p) u (ap (λ (q : Point). nodeOf ns q) (same-true p (pointAt ns u) e) ∙ N u h))
       go false e = sym (ne-eqb (nodeOf ns p) u (λ k. differ p (pointAt ns u) e (sym (node-point ns p i) ∙ ap (λ (v : ℕ). pointAt ns v) k)))
-
-  pub by-numbers : (u v : ℕ) → u < length ns → v < length ns → same (pointAt ns u) (pointAt ns v) ≡ eqb u v
-  by-numbers u v hu hv = by-number (pointAt ns u) v (is-node u hu) hv ∙ ap (λ (k : ℕ). eqb k v) (N u hu)
 
 -- a node is not a point that is no node
 pub no-node : (ns : List Point) (p q : Point) → length ns ≤ nodeOf ns p → IsNode ns q → same q p ≡ false

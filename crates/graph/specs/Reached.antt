@@ -2,7 +2,7 @@
 use mathlib.Core.Path.{_≡_, refl, sym, ap, _∙_, subst}
 use mathlib.Core.Logic.{_⊎_, inl, inr}
 use mathlib.Core.List.{List, [], _∷_}
-use mathlib.Core.Bool.{Bool, true, false, _&&_, false≢true}
+use mathlib.Core.Bool.{Bool, true, false, false≢true}
 use Prim.Native.Nat.{ℕ, zero, suc, _+_, _≤_, _<_, suc-le-suc}
 use native.Mathlib.Nat.{not-suc-le-zero, le-of-suc-le-suc}
 use native.Mathlib.Omega.{arith}
@@ -19,14 +19,7 @@ use Rattle.graph.specs.Reach.{spread, sweep, sweeps, allTrue, allReached
 abbrev Marked : List Bool → ℕ → Type 0
 Marked ms v = getD ms v false ≡ true
 
--- ---- only nodes that can be reached are marked
-
-set-marks : (ms : List Bool) (u v : ℕ) → Marked (set ms u true) v → (v ≡ u) ⊎ Marked ms v
-set-marks [] u v m = inr m
-set-marks (b ∷ ms) zero zero m = inl refl
-set-marks (b ∷ ms) zero (suc v) m = inr m
-set-marks (b ∷ ms) (suc u) zero m = inr m
-set-marks (b ∷ ms) (suc u) (suc v) m = elim (set-marks ms u v m) [ inl e ↦ inl (ap suc e) | inr n ↦ inr n ]
+-- ---- spreading and sweeping
 
 -- the mark goes on from u where it stands there
 spread-case : (ms : List Bool) (u v : ℕ) (P : List Bool → Type 0) → P ms → (Marked ms u → P (set ms v true)) → P (spread ms u v)
@@ -36,43 +29,6 @@ spread-case ms u v P no-mark mark = go (getD ms u false) refl
     go : (t : Bool) → getD ms u false ≡ t → P (elim t [ true ↦ set ms v true | false ↦ ms ])
     go true e = mark e
     go false e = no-mark
-
-abbrev Sound : List Edge → List Bool → Type 0
-Sound es ms = (v : ℕ) → Marked ms v → Reach es 0 v
-
-module _ (all : List Edge) where
-  spread-sound : (ms : List Bool) (u v : ℕ) → Joined all u v → Sound all ms → Sound all (spread ms u v)
-  spread-sound ms u v j s =
-      spread-case ms u v (Sound all) s
-      (λ m w k. elim (set-marks ms v w k) [ inl e ↦ subst (λ (n : ℕ). Reach all 0 n) (sym e) (on (s u m) j) | inr h ↦ s w h ])
-
-  sweep-sound : (es : List Edge) (ms : List Bool) → ((e : Edge) → In e es → In e all) → Sound all ms → Sound all (sweep es ms)
-  unfolding sweep
-  sweep-sound [] ms sub s = s
-  sweep-sound (e ∷ es) ms sub s =
-      sweep-sound es (spread (spread ms (e .a) (e .b)) (e .b) (e .a)) (λ x i. sub x (inr i))
-      (spread-sound (spread ms (e .a) (e .b)) (e .b) (e .a) (record { by = e; isIn = sub e (inl refl); joins = inr (refl, refl) })
-      (spread-sound ms (e .a) (e .b) (record { by = e; isIn = sub e (inl refl); joins = inl (refl, refl) }) s))
-
-  sweeps-sound : (k : ℕ) (ms : List Bool) → Sound all ms → Sound all (sweeps k all ms)
-  unfolding sweeps
-  sweeps-sound zero ms s = s
-  sweeps-sound (suc k) ms s = sweeps-sound k (sweep all ms) (sweep-sound all ms (λ e i. i) s)
-
-  start-sound : (n : ℕ) → Sound all (set (replicate n false) 0 true)
-  start-sound n v m = elim (set-marks (replicate n false) 0 v m) [ inl e ↦ subst (λ (k : ℕ). Reach all 0 k) (sym e) here | inr h ↦ absurd (false≢true (sym (unmarked n v) ∙ h)) ]
-    where
-      unmarked : (n v : ℕ) → getD (replicate n false) v false ≡ false
-      unmarked zero v = refl
-      unmarked (suc n) zero = refl
-      unmarked (suc n) (suc v) = unmarked n v
-
-all-marked : (ms : List Bool) → allTrue ms ≡ true → (v : ℕ) → v < length ms → Marked ms v
-unfolding allTrue
-all-marked [] e v h = absurd (not-suc-le-zero h)
-all-marked (true ∷ ms) e zero h = refl
-all-marked (true ∷ ms) e (suc v) h = all-marked ms e v (le-of-suc-le-suc h)
-all-marked (false ∷ ms) e v h = absurd (false≢true e)
 
 spread-length : (ms : List Bool) (u v : ℕ) → length (spread ms u v) ≡ length ms
 spread-length ms u v = spread-case ms u v (λ (k : List Bool). length k ≡ length ms) refl (λ m. length-set ms v true)
@@ -92,12 +48,6 @@ sweeps-length (suc k) es ms = sweeps-length k es (sweep es ms) ∙ sweep-length 
 -- of n nodes the first is marked before the first sweep
 started : (n : ℕ) → length (set (replicate n false) 0 true) ≡ n
 started n = length-set (replicate n false) 0 true ∙ length-replicate n false
-
-pub all-reached : (n : ℕ) (es : List Edge) → allReached n es ≡ true → (v : ℕ) → v < n → Reach es 0 v
-unfolding allReached
-all-reached n es e v h =
-    let ms = set (replicate n false) 0 true in
-    sweeps-sound es n ms (start-sound es n) v (all-marked (sweeps n es ms) e v (rw (sweeps-length n es ms, started n) h))
 
 -- ---- every node that can be reached is marked: each sweep marks one more, or the marks are closed under edges, and there are only n to mark
 
@@ -137,6 +87,7 @@ count-le (false ∷ ms) = omega (arith, count-le ms)
 abbrev Grows : List Bool → List Bool → Type 0 → Type 0
 Grows ms ks P = ((ks ≡ ms) × P) ⊎ (count ms < count ks)
 
+-- one such change and then another
 both : (ms ks ls : List Bool) (P : Type 0) (Q : List Bool → Type 0) → Grows ms ks P → Grows ks ls (Q ks) → Grows ms ls (P × Q ms)
 both ms ks ls P Q (inl h) (inl k) = inl (k .0 ∙ h .0, (h .1, subst Q (h .0) (k .1)))
 both ms ks ls P Q (inl h) (inr k) = inr (rw (h .0) at k)
@@ -205,6 +156,7 @@ unfolding allTrue
 marked-all [] h = refl
 marked-all (b ∷ ms) h = rw (h 0 (omega arith)) (marked-all ms (λ v l. h (suc v) (suc-le-suc l)))
 
+-- check 9 passes where every node can be reached
 pub reached-all : (n : ℕ) (es : List Edge) → Inside n es → ((v : ℕ) → v < n → Reach es 0 v) → allReached n es ≡ true
 unfolding allReached sumOver
 reached-all zero es i r = refl
@@ -217,3 +169,56 @@ reached-all (suc n) es i r =
       | inl c ↦ carried es ks c (sweeps-keep (suc n) es ms 0 refl) v (r v (rw lk at h))
       | inr g ↦ absurd (omega (arith, count-le ks))
     ])
+
+-- ---- only nodes that can be reached are marked
+
+set-marks : (ms : List Bool) (u v : ℕ) → Marked (set ms u true) v → (v ≡ u) ⊎ Marked ms v
+set-marks [] u v m = inr m
+set-marks (b ∷ ms) zero zero m = inl refl
+set-marks (b ∷ ms) zero (suc v) m = inr m
+set-marks (b ∷ ms) (suc u) zero m = inr m
+set-marks (b ∷ ms) (suc u) (suc v) m = elim (set-marks ms u v m) [ inl e ↦ inl (ap suc e) | inr n ↦ inr n ]
+
+abbrev Sound : List Edge → List Bool → Type 0
+Sound es ms = (v : ℕ) → Marked ms v → Reach es 0 v
+
+module _ (all : List Edge) where
+  spread-sound : (ms : List Bool) (u v : ℕ) → Joined all u v → Sound all ms → Sound all (spread ms u v)
+  spread-sound ms u v j s =
+      spread-case ms u v (Sound all) s
+      (λ m w k. elim (set-marks ms v w k) [ inl e ↦ subst (λ (n : ℕ). Reach all 0 n) (sym e) (on (s u m) j) | inr h ↦ s w h ])
+
+  sweep-sound : (es : List Edge) (ms : List Bool) → ((e : Edge) → In e es → In e all) → Sound all ms → Sound all (sweep es ms)
+  unfolding sweep
+  sweep-sound [] ms sub s = s
+  sweep-sound (e ∷ es) ms sub s =
+      sweep-sound es (spread (spread ms (e .a) (e .b)) (e .b) (e .a)) (λ x i. sub x (inr i))
+      (spread-sound (spread ms (e .a) (e .b)) (e .b) (e .a) (record { by = e; isIn = sub e (inl refl); joins = inr (refl, refl) })
+      (spread-sound ms (e .a) (e .b) (record { by = e; isIn = sub e (inl refl); joins = inl (refl, refl) }) s))
+
+  sweeps-sound : (k : ℕ) (ms : List Bool) → Sound all ms → Sound all (sweeps k all ms)
+  unfolding sweeps
+  sweeps-sound zero ms s = s
+  sweeps-sound (suc k) ms s = sweeps-sound k (sweep all ms) (sweep-sound all ms (λ e i. i) s)
+
+  start-sound : (n : ℕ) → Sound all (set (replicate n false) 0 true)
+  start-sound n v m = elim (set-marks (replicate n false) 0 v m) [ inl e ↦ subst (λ (k : ℕ). Reach all 0 k) (sym e) here | inr h ↦ absurd (false≢true (sym (unmarked n v) ∙ h)) ]
+    where
+      unmarked : (n v : ℕ) → getD (replicate n false) v false ≡ false
+      unmarked zero v = refl
+      unmarked (suc n) zero = refl
+      unmarked (suc n) (suc v) = unmarked n v
+
+all-marked : (ms : List Bool) → allTrue ms ≡ true → (v : ℕ) → v < length ms → Marked ms v
+unfolding allTrue
+all-marked [] e v h = absurd (not-suc-le-zero h)
+all-marked (true ∷ ms) e zero h = refl
+all-marked (true ∷ ms) e (suc v) h = all-marked ms e v (le-of-suc-le-suc h)
+all-marked (false ∷ ms) e v h = absurd (false≢true e)
+
+-- and where it passes every node can be
+pub all-reached : (n : ℕ) (es : List Edge) → allReached n es ≡ true → (v : ℕ) → v < n → Reach es 0 v
+unfolding allReached
+all-reached n es e v h =
+    let ms = set (replicate n false) 0 true in
+    sweeps-sound es n ms (start-sound es n) v (all-marked (sweeps n es ms) e v (rw (sweeps-length n es ms, started n) h))

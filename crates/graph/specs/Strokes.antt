@@ -1,21 +1,64 @@
--- Strokes and points of use: the two ends of a stroke differ and are points of use, and a point of use is a point of a line or an end of a link.
-use mathlib.Core.Path.{_≡_, refl}
-use mathlib.Core.List.{List, [], _∷_, _++_}
-use mathlib.Core.Bool.{Bool, true, false, _&&_, not}
-use Prim.Native.Nat.{ℕ, suc}
+-- Strokes and points of use: pieces are the steps of a chain between different points. The two ends of a stroke differ and are points of use, and a point of use is a point
+-- of a line or an end of a link.
+use mathlib.Core.Path.{_≡_, refl, sym, ap, _∙_, subst}
+use mathlib.Core.List.{List, [], _∷_}
+use mathlib.Core.Bool.{Bool, true, false, _&&_, _||_, not, cond}
+use Prim.Native.Nat.{ℕ, suc, _+_}
+use native.Mathlib.Omega.{arith}
 use lib.Dec.{eqb, leb}
 use Rattle.drawing.specs.Drawing.{Point, same, End, Link, Drawing}
+use Rattle.drawing.specs.Same.{same-true, differ}
 use Rattle.drawing.specs.Members.{In, All, either, all-append, all-front, all-back, all-own}
 use Rattle.drawing.specs.OnGrid.{AtEnds}
 use Rattle.graph.specs.Chain.{squared, Stroke, stroke, naming, splits, insert, sort, inner, changes, distinct, chain, pieces, linePieces, lineUses, piecesFrom, usesFrom, piecesOf, linkStrokes, linksOf, strokesOf, linkUses, usesOf}
+use Rattle.graph.specs.Degree.{one}
+use Rattle.graph.specs.Count.{sumOver, lineSum, lies, stepsBetween, strokesBetween}
+
+-- ---- wherever two different points follow each other in a chain, there is one piece between them, and between a point and itself there is none
+
+-- nothing from a point to itself lies between two different points
+lies-still : (p q a : Point) → same p q ≡ false → lies p q a a ≡ 0
+lies-still p q a d = go (same a p) (same a q) refl refl
+  where
+    go : (s t : Bool) → same a p ≡ s → same a q ≡ t → one ((s && t) || (t && s)) ≡ 0
+    go true true e f = absurd (differ p q d (sym (same-true a p e) ∙ same-true a q f))
+    go true false e f = refl
+    go false true e f = refl
+    go false false e f = refl
+
+-- and nothing between different points lies between a point and itself
+lies-own : (p a b : Point) → same a b ≡ false → lies p p a b ≡ 0
+lies-own p a b d = go (same a p) (same b p) refl refl
+  where
+    go : (s t : Bool) → same a p ≡ s → same b p ≡ t → one ((s && t) || (s && t)) ≡ 0
+    go true true e f = absurd (differ a b d (same-true a p e ∙ sym (same-true b p f)))
+    go true false e f = refl
+    go false true e f = refl
+    go false false e f = refl
+
+pub pieces-steps : (p q a : Point) (bs : List Point) → strokesBetween p q (pieces a bs) ≡ cond (same p q) 0 (stepsBetween p q (a ∷ bs))
+unfolding pieces sumOver lineSum
+pieces-steps p q a [] = none (same p q)
+  where
+    none : (t : Bool) → _≡_ {A = ℕ} 0 (cond t 0 0)
+    none true = refl
+    none false = refl
+pieces-steps p q a (b ∷ bs) = go (same a b) (same p q) refl refl (pieces-steps p q b bs)
+  where
+    go : (s t : Bool) → same a b ≡ s → same p q ≡ t → strokesBetween p q (pieces b bs) ≡ cond t 0 (stepsBetween p q (b ∷ bs))
+        → strokesBetween p q (elim s [ true ↦ pieces b bs | false ↦ stroke a b ∷ pieces b bs ]) ≡ cond t 0 (stepsBetween p q (a ∷ b ∷ bs))
+    go true true e f r = r
+    go true false e f r = let z : lies p q a b ≡ 0 = subst (λ (c : Point). lies p q a c ≡ 0) (same-true a b e) (lies-still p q a f) in omega arith
+    go false true e f r = let z : lies p q a b ≡ 0 = subst (λ (c : Point). lies p c a b ≡ 0) (same-true p q f) (lies-own p a b e) in omega arith
+    go false false e f r = ap (λ (n : ℕ). lies p q a b + n) r
+
+-- ---- what holds of every point of use holds of the ends of every stroke
 
 -- both ends have the property P, and they differ
 pub record Between (P : Point → Type 0) (s : Stroke) : Type 0 where
   pub from : P (s .from)
   pub to : P (s .to)
   pub apart : same (s .from) (s .to) ≡ false
-
--- ---- what holds of every point of use holds of the ends of every stroke
 
 module _ (P : Point → Type 0) where
   pieces-between : (p : Point) (qs : List Point) → P p → All P qs → All (Between P) (pieces p qs)

@@ -7,3 +7,4 @@ pub mod Demand3
 pub mod Proved
 pub mod Samples
 pub mod Written
+pub mod Drawn

@@ -10,10 +10,8 @@ use lib.Ieee.Bits.{toBits-lt}
 use lib.Ieee.Fits.{round-fits}
 use Rattle.grid.specs.Grid.{origin, gridExponent, readPlace, writePlace, coordinate}
 use Rattle.grid.specs.Back.{read-write, write-is, coordinate-is}
-use Rattle.grid.specs.declared.Place.{Place}
-use Rattle.grid.specs.declared.Place.the-variants.{On}
 use Rattle.drawing.specs.Bytes.{number, bytes}
-use Rattle.drawing.specs.Back.{bytes-length, number-bytes, drop-bytes}
+use Rattle.drawing.specs.Back.{number-bytes, drop-bytes}
 use Rattle.drawing.specs.Drawing.{Point}
 use Rattle.drawing.specs.Members.{All}
 use Rattle.drawing.specs.OnGrid.{OnGrid}
