@@ -8,10 +8,9 @@ use native.Mathlib.Omega.{arith}
 use lib.ListN.{length}
 use lib.Dec.{lit≤}
 use lib.Ieee.{binary64}
-use Rattle.grid.specs.Grid.{origin}
 use Rattle.sums.specs.Key.{Nonneg}
-use Rattle.length.specs.Step.{gridExponent}
-use Rattle.length.specs.Root.{apart, square}
+use Rattle.grid.specs.Grid.{gridExponent, origin, gap}
+use Rattle.length.specs.Root.{square}
 use Rattle.length.specs.Length.{length-nonneg}
 use Rattle.drawing.specs.Drawing.{Point, Drawing}
 use Rattle.drawing.specs.Same.{differ}
@@ -98,10 +97,10 @@ module _ (d : Drawing) where
 -- on the grid two places are at most 2 ^ 23 apart, so squared distances are at most 2 ^ 47
 squared-below : (p q : Point) → OnGrid p → OnGrid q → squared p q < 2 ^ 64
 squared-below p q g h =
-    let x : apart (p .x) (q .x) ≤ 2 * origin = omega arith in
-    let y : apart (p .y) (q .y) ≤ 2 * origin = omega arith in
-    let xx : square (apart (p .x) (q .x)) ≤ 2 ^ 46 = mul-le-mul x x in
-    let yy : square (apart (p .y) (q .y)) ≤ 2 ^ 46 = mul-le-mul y y in
+    let x : gap (p .x) (q .x) ≤ 2 * origin = omega arith in
+    let y : gap (p .y) (q .y) ≤ 2 * origin = omega arith in
+    let xx : square (gap (p .x) (q .x)) ≤ 2 ^ 46 = mul-le-mul x x in
+    let yy : square (gap (p .y) (q .y)) ≤ 2 ^ 46 = mul-le-mul y y in
     omega arith
 
 -- every node is on the grid, and so is the point that stands for a number past the last

@@ -18,4 +18,4 @@ pub mod Between
 pub mod Built
 pub mod Few
 pub mod Reached
-pub mod Samples
+pub mod Cases

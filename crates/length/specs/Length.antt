@@ -16,7 +16,8 @@ use lib.Ieee.Scale.{finite}
 use borrow.Author.Tests.{lt-ltb, le-ltb}
 use Rattle.sums.specs.Key.{Nonneg, key, lt-key, nonneg-number}
 use Rattle.sums.specs.Sum.{plusZero, zero-key}
-use Rattle.length.specs.Root.{square, apart, squaredOf, rootOver, lengthAt, lengthOf}
+use Rattle.grid.specs.Grid.{gap}
+use Rattle.length.specs.Root.{square, squaredOf, rootOver, lengthAt, lengthOf}
 use Rattle.length.specs.Nearest.{NearestRoot, nearest-mono}
 use Rattle.length.specs.Proved.{root-over-nearest, root-over-nonneg, root-over-finite, root-over-pos, root-over-least, root-over-zero}
 use Rattle.length.specs.Order.{root-over-order}
@@ -25,11 +26,11 @@ pub short : (n : ℕ) → n < 2 ^ 64 → size n ≤ 2 * prec binary64
 short n h = le-trans (size-le n 64 h) (lit≤ tt)
 
 -- every squared length on a grid of up to 2 ^ 24 steps each way
-apart-le : (a b : ℕ) → a ≤ 2 ^ 24 → b ≤ 2 ^ 24 → apart a b ≤ 2 ^ 24
-apart-le a b A B = omega arith
+gap-le : (a b : ℕ) → a ≤ 2 ^ 24 → b ≤ 2 ^ 24 → gap a b ≤ 2 ^ 24
+gap-le a b A B = omega arith
 
-pub square-le : (a b : ℕ) → a ≤ 2 ^ 24 → b ≤ 2 ^ 24 → square (apart a b) ≤ 2 ^ 48
-square-le a b A B = mul-le-mul {n₂ = 2 ^ 24} {m₂ = 2 ^ 24} (apart-le a b A B) (apart-le a b A B)
+pub square-le : (a b : ℕ) → a ≤ 2 ^ 24 → b ≤ 2 ^ 24 → square (gap a b) ≤ 2 ^ 48
+square-le a b A B = mul-le-mul {n₂ = 2 ^ 24} {m₂ = 2 ^ 24} (gap-le a b A B) (gap-le a b A B)
 
 pub squared-lt : (ax ay bx by : ℕ) → ax ≤ 2 ^ 24 → ay ≤ 2 ^ 24 → bx ≤ 2 ^ 24 → by ≤ 2 ^ 24 → squaredOf ax ay bx by < 2 ^ 50
 squared-lt ax ay bx by A B C D = omega (arith, square-le ax bx A C, square-le ay by B D)

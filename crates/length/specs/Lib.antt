@@ -1,5 +1,4 @@
 -- Lengths between points of the grid: the f64 nearest to the exact root of a whole number of squared grid steps, in units of the grid.
-pub mod Step
 pub mod Root
 pub mod Nearest
 pub mod Whole

@@ -4,18 +4,14 @@ use Prim.Native.Nat.{ℕ, zero, suc, _+_, _-_, _*_, _/_, _^_}
 use lib.Dec.{leb, ltb}
 use lib.IntN.{pos}
 use lib.Ieee.{Float, fin, Format, binary64, prec, size, round, div}
-use Rattle.length.specs.Step.{gridExponent}
+use Rattle.grid.specs.Grid.{gridExponent, gap}
 
 abbrev pub square : ℕ → ℕ
 square n = n * n
 
--- how far two places of the grid are apart, whichever comes first
-abbrev pub apart : ℕ → ℕ → ℕ
-apart a b = (a - b) + (b - a)
-
 -- the squared distance of the points (ax, ay) and (bx, by), all in grid steps
 abbrev pub squaredOf : ℕ → ℕ → ℕ → ℕ → ℕ
-squaredOf ax ay bx by = square (apart ax bx) + square (apart ay by)
+squaredOf ax ay bx by = square (gap ax bx) + square (gap ay by)
 
 -- The whole part of the root of an n below 4 ^ d, by binary digits, as on paper: n / 4 has one digit less in its root. That root is doubled, and one is added where the
 -- square still fits.

@@ -14,4 +14,4 @@ pub mod Matched
 pub mod Applied
 pub mod Repaired
 pub mod Stops
-pub mod Samples
+pub mod Cases

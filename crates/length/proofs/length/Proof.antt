@@ -4,7 +4,7 @@ use mathlib.Core.Bool.{false}
 use lib.IntN.{pos}
 use lib.Ieee.{Float, fin, binary64, ofBits, div}
 use borrow.Author.Needs.{needs}
-use Rattle.length.specs.Step.{gridExponent}
+use Rattle.grid.specs.Grid.{gridExponent}
 use Rattle.length.specs.Value.{root-over-divides}
 use Rattle.length.proofs.length.Statement.{statement}
 use Rattle.length.proofs.length.Tie as tie

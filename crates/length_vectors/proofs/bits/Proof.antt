@@ -1,7 +1,7 @@
 -- `length_vectors::bits` meets its contract: no length is a NaN, so it has bits.
 use lib.Dec.{lit≤}
 use borrow.Author.Needs.{needs}
-use Rattle.length.specs.Step.{gridExponent}
+use Rattle.grid.specs.Grid.{gridExponent}
 use Rattle.length.specs.Length.{length-number}
 use Rattle.length_vectors.proofs.bits.Statement.{statement}
 use Rattle.length_vectors.proofs.bits.Tie as tie
