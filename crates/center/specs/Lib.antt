@@ -1,0 +1,4 @@
+-- Distances from the centre of the canvas.
+pub mod Center
+pub mod Source
+pub mod Exact

@@ -1,0 +1,61 @@
+-- The elements of a list: what it is to be one of them, and what holds of each.
+use mathlib.Core.Path.{_≡_, refl, sym, subst}
+use mathlib.Core.Logic.{_⊎_, inl, inr}
+use mathlib.Core.Bool.{Bool, true, false}
+use mathlib.Core.List.{List, [], _∷_, _++_, map}
+
+abbrev pub In : {A : Type 0} → A → List A → Type 0
+In x [] = ⊥
+In x (y ∷ ys) = (x ≡ y) ⊎ In x ys
+
+-- every element
+abbrev pub All : {A : Type 0} → (A → Type 0) → List A → Type 0
+All P [] = Unit {0}
+All P (x ∷ xs) = P x × All P xs
+
+-- what holds in both cases of a test holds of the case that is taken
+pub either : {A : Type 0} (P : A → Type 0) (x y : A) → P x → P y → (t : Bool) → P (elim t [ true ↦ x | false ↦ y ])
+either P x y h k true = h
+either P x y h k false = k
+
+module _ {A : Type 0} where
+  pub in-left : (x : A) (xs ys : List A) → In x xs → In x (xs ++ ys)
+  in-left x (y ∷ xs) ys (inl e) = inl e
+  in-left x (y ∷ xs) ys (inr i) = inr (in-left x xs ys i)
+
+  module _ (P : A → Type 0) where
+    pub all-in : (xs : List A) → All P xs → (x : A) → In x xs → P x
+    all-in (y ∷ xs) a x (inl e) = subst P (sym e) (a .0)
+    all-in (y ∷ xs) a x (inr i) = all-in xs (a .1) x i
+
+    pub in-all : (xs : List A) → ((x : A) → In x xs → P x) → All P xs
+    in-all [] h = tt
+    in-all (x ∷ xs) h = (h x (inl refl), in-all xs (λ y i. h y (inr i)))
+
+    pub all-append : (xs ys : List A) → All P xs → All P ys → All P (xs ++ ys)
+    all-append [] ys a b = b
+    all-append (x ∷ xs) ys a b = (a .0, all-append xs ys (a .1) b)
+
+    pub all-front : (xs ys : List A) → All P (xs ++ ys) → All P xs
+    all-front [] ys a = tt
+    all-front (x ∷ xs) ys a = (a .0, all-front xs ys (a .1))
+
+    pub all-back : (xs ys : List A) → All P (xs ++ ys) → All P ys
+    all-back [] ys a = a
+    all-back (x ∷ xs) ys a = all-back xs ys (a .1)
+
+  pub all-own : (xs : List A) → All (λ (x : A). In x xs) xs
+  all-own xs = in-all (λ (x : A). In x xs) xs (λ x i. i)
+
+-- what holds of the images
+pub all-map : {A B : Type 0} (f : A → B) (P : B → Type 0) (xs : List A) → All (λ (x : A). P (f x)) xs → All P (map f xs)
+all-map f P [] a = tt
+all-map f P (x ∷ xs) a = (a .0, all-map f P xs (a .1))
+
+pub all-imp : {A : Type 0} (P Q : A → Type 0) → ((x : A) → P x → Q x) → (xs : List A) → All P xs → All Q xs
+all-imp P Q f [] a = tt
+all-imp P Q f (x ∷ xs) a = (f x (a .0), all-imp P Q f xs (a .1))
+
+pub all-both : {A : Type 0} (P Q : A → Type 0) (xs : List A) → All P xs → All Q xs → All (λ (x : A). P x × Q x) xs
+all-both P Q [] a b = tt
+all-both P Q (x ∷ xs) a b = ((a .0, b .0), all-both P Q xs (a .1) (b .1))

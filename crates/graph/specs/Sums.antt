@@ -1,0 +1,83 @@
+-- Laws of the sums over edges: what one edge gives to a degree or to the edges between two nodes, and sums over two lists.
+use mathlib.Core.Path.{_≡_, refl, sym, ap}
+use mathlib.Core.Logic.{inl, inr}
+use mathlib.Core.List.{List, [], _∷_, _++_}
+use mathlib.Core.Bool.{Bool, true, false, _&&_, _||_}
+use Prim.Native.Nat.{ℕ, _+_, _≤_, _<_, zero-le}
+use native.Mathlib.Nat.{le-refl, not-suc-le-zero, zero-add}
+use native.Mathlib.Omega.{arith}
+use lib.Dec.{eqb}
+use borrow.Author.Tests.{eqb-true, eq-eqb, ne-eqb}
+use Rattle.graph.specs.Graph.{Edge}
+use Rattle.graph.specs.Degree.{one, hit, degree}
+use Rattle.graph.specs.Count.{sumOver, joint}
+use Rattle.graph.specs.Ways.{Joins}
+
+-- ---- one edge
+
+pub hit-same : (u : ℕ) → hit u u ≡ 1
+hit-same u = ap one (eq-eqb u u refl)
+
+pub hit-other : (u v : ℕ) → (u ≡ v → ⊥) → hit u v ≡ 0
+hit-other u v h = ap one (ne-eqb u v h)
+
+pub hit-le : (u v : ℕ) → hit u v ≤ 1
+hit-le u v = go (eqb u v)
+  where
+    go : (t : Bool) → one t ≤ 1
+    go true = le-refl 1
+    go false = zero-le
+
+pub hit-eq : (u v : ℕ) → 0 < hit u v → u ≡ v
+hit-eq u v h = go (eqb u v) refl h
+  where
+    go : (t : Bool) → eqb u v ≡ t → 0 < one t → u ≡ v
+    go true e p = eqb-true u v e
+    go false e p = absurd (not-suc-le-zero p)
+
+-- an edge between u and w counts for the degrees of u and of w
+pub joins-hit : (e : Edge) (u w v : ℕ) → Joins e u w → hit (e .a) v + hit (e .b) v ≡ hit u v + hit w v
+joins-hit e u w v (inl p) = rw (p .0, p .1)
+joins-hit e u w v (inr p) = rw (p .0, p .1) (omega arith)
+
+pub joint-comm : (u v x y : ℕ) → joint u v x y ≡ joint u v y x
+joint-comm u v x y = go (eqb x u) (eqb y v) (eqb x v) (eqb y u)
+  where
+    go : (p q r s : Bool) → one ((p && q) || (r && s)) ≡ one ((s && r) || (q && p))
+    go true true true true = refl
+    go true true true false = refl
+    go true true false true = refl
+    go true true false false = refl
+    go true false true true = refl
+    go true false true false = refl
+    go true false false true = refl
+    go true false false false = refl
+    go false true true true = refl
+    go false true true false = refl
+    go false true false true = refl
+    go false true false false = refl
+    go false false true true = refl
+    go false false true false = refl
+    go false false false true = refl
+    go false false false false = refl
+
+-- a step along an edge is counted like the edge
+pub joins-joint : (u v : ℕ) (e : Edge) (x y : ℕ) → Joins e x y → joint u v x y ≡ joint u v (e .a) (e .b)
+joins-joint u v e x y (inl p) = rw (p .0, p .1)
+joins-joint u v e x y (inr p) = rw (p .0, p .1) (joint-comm u v x y)
+
+-- ---- lists of edges
+
+pub sumOver-append : {A : Type 0} (g : A → ℕ) (xs ys : List A) → sumOver g (xs ++ ys) ≡ sumOver g xs + sumOver g ys
+unfolding sumOver
+sumOver-append g [] ys = sym (zero-add (sumOver g ys))
+sumOver-append g (x ∷ xs) ys = omega (arith, sumOver-append g xs ys)
+
+-- the degree is the sum of what each edge gives
+pub degree-sum : (es : List Edge) (v : ℕ) → degree es v ≡ sumOver (λ (e : Edge). hit (e .a) v + hit (e .b) v) es
+unfolding degree sumOver
+degree-sum [] v = refl
+degree-sum (e ∷ es) v = ap (λ (n : ℕ). hit (e .a) v + hit (e .b) v + n) (degree-sum es v)
+
+pub degree-append : (xs ys : List Edge) (v : ℕ) → degree (xs ++ ys) v ≡ degree xs v + degree ys v
+degree-append xs ys v = simp (degree-sum, sumOver-append)

@@ -1,0 +1,3 @@
+-- The laws that the proofs of the functions share.
+pub mod Fields
+pub mod Quotient

@@ -1,0 +1,4 @@
+-- The grid of a drawing's coordinates.
+pub mod Grid
+pub mod Same
+pub mod Back

@@ -1,0 +1,116 @@
+// Replays tools/grid_vectors.py's patterns against `grid`: each is read, and where it is on the grid
+// its place is written back. It prints how many there were and how many came out otherwise.
+use grid::Place;
+use libc::STDOUT_FILENO;
+ghost use Prim.Native.Nat.{_+_, _≤_, _<_};
+ghost use lib.ListN.{length};
+
+// A line of the file: a kind, a blank, 16 hex digits, a blank, 8 hex digits, a line feed.
+const LINE: usize = 28;
+
+// What the file has in the place of a place where a pattern is not on the grid.
+const OFF: u64 = 0xffff_ffff;
+
+// The value of a hex digit, and 0 of any other byte.
+fn digit(c: u8) -> u64
+    ensures { λ r. ⌜ r < 16 ⌝ }
+{
+    if c < b'0' {
+        return 0;
+    }
+    if c <= b'9' {
+        return (c - b'0') as u64;
+    }
+    if c < b'a' {
+        return 0;
+    }
+    if c <= b'f' {
+        return (c - b'a') as u64 + 10;
+    }
+    0
+}
+
+// The number that `count` hex digits say from index `at` on, up to the end of the slice.
+fn number(s: &[u8], at: usize, count: usize) -> u64 {
+    let mut value: u64 = 0;
+    let mut i = at;
+    let mut left = count;
+    while left > 0 {
+        if i >= s.len() {
+            return value;
+        }
+        value = value % 0x1000_0000_0000_0000 * 16 + digit(s[i]);
+        i += 1;
+        left -= 1;
+    }
+    value
+}
+
+// Whether a pattern is read as the place that the file says, and that place is written as the pattern.
+fn read_right(bits: u64, place: u64) -> bool {
+    match grid::read_place(bits) {
+        Place::On(p) => {
+            if p as u64 != place {
+                return false;
+            }
+            grid::write_place(p) == bits
+        }
+        Place::Off => place == OFF,
+    }
+}
+
+// Whether a place is written as the pattern that the file says.
+fn write_right(place: u64, bits: u64) -> bool {
+    if place > OFF {
+        return false;
+    }
+    grid::write_place(place as u32) == bits
+}
+
+// 1 where the line at `at` does not hold, and 0 where it does.
+fn wrong(s: &[u8], at: usize) -> u64
+    requires { ⌜ at + 28 ≤ length (now s) ⌝ }
+    ensures { λ r. ⌜ r ≤ 1 ⌝ }
+{
+    let bits = number(s, at + 2, 16);
+    let place = number(s, at + 19, 8);
+    if s[at] == b'r' {
+        if read_right(bits, place) {
+            return 0;
+        }
+    }
+    if s[at] == b'w' {
+        if write_right(place, bits) {
+            return 0;
+        }
+    }
+    1
+}
+
+// How many of the lines do not hold.
+fn count_wrong(s: &[u8]) -> u64 {
+    let mut found: u64 = 0;
+    let mut at: usize = 0;
+    while LINE <= s.len() - at {
+        found += wrong(s, at);
+        at += LINE;
+    }
+    found
+}
+
+fn main() {
+    let path = b"vectors";
+    let fd = os::open_read(path);
+    if fd < 0 {
+        os::fail(path);
+        return;
+    }
+    let mut buf = [0u8; 262144];
+    let n = io::read_full(fd, &mut buf);
+    libc::close(fd);
+    io::write_all(STDOUT_FILENO, b"grid: ");
+    io::print_decimal(STDOUT_FILENO, (n / LINE) as u64);
+    io::write_all(STDOUT_FILENO, b" vectors, ");
+    io::print_decimal(STDOUT_FILENO, count_wrong(&buf[..n]));
+    io::write_all(STDOUT_FILENO, b" wrong\n");
+}

@@ -1,0 +1,2 @@
+-- The limits that the planner holds a drawing to.
+pub mod Limits

@@ -1,0 +1,64 @@
+-- The graph of a file's drawing, in the words of document 01: edges between two nodes are the pieces and links between their points, and nothing is drawn at a point that is no node.
+use mathlib.Core.Path.{_≡_, refl, sym, _∙_}
+use mathlib.Core.Logic.{_⊎_}
+use mathlib.Core.List.{List}
+use Prim.Native.Nat.{ℕ, _+_, _^_, _≤_, _<_}
+use lib.ListN.{length}
+use lib.Ieee.{binary64}
+use Rattle.sums.specs.Key.{Nonneg}
+use Rattle.drawing.specs.Drawing.{Point}
+use Rattle.drawing.specs.Members.{In}
+use Rattle.drawing.specs.Read.{recordsOf}
+use Rattle.drawing.specs.OnGrid.{OnGrid, lines-on, links-on}
+use Rattle.drawing.specs.Accepted.{Fits, counts-fit}
+use Rattle.graph.specs.Chain.{Stroke, piecesOf, linksOf, strokesOf}
+use Rattle.graph.specs.Graph.{Edge, nodeOf, pointAt, buildGraph}
+use Rattle.graph.specs.Degree.{degree}
+use Rattle.graph.specs.Count.{lies, touches, joining, strokesBetween, strokesAt}
+use Rattle.graph.specs.Sums.{sumOver-append}
+use Rattle.graph.specs.Built.{built-joining, built-degree, built-none, built-untouched, built-on, built-weights}
+use Rattle.graph.specs.Few.{counted-few}
+use Rattle.planner.specs.Plan.{drawingIn, graphIn}
+use Rattle.planner.specs.Words.{piecesBetween, linksBetween, drawnAt}
+
+module _ (file : List ℕ) where
+  graph-is : graphIn file ≡ buildGraph (drawingIn file)
+  unfolding graphIn
+  graph-is = refl
+
+  drawn-between : (p q : Point) → strokesBetween p q (strokesOf (drawingIn file)) ≡ piecesBetween p q file + linksBetween p q file
+  unfolding piecesBetween linksBetween
+  drawn-between p q = sumOver-append (λ (s : Stroke). lies p q (s .from) (s .to)) (piecesOf (drawingIn file)) (linksOf (drawingIn file))
+
+  drawn-at : (p : Point) → strokesAt p (strokesOf (drawingIn file)) ≡ drawnAt p file
+  unfolding drawnAt
+  drawn-at p = sumOver-append (λ (s : Stroke). touches p (s .from) (s .to)) (piecesOf (drawingIn file)) (linksOf (drawingIn file))
+
+  pub graph-joining : (u v : ℕ) → u < length (graphIn file .nodes) → v < length (graphIn file .nodes)
+      → joining u v (graphIn file .edges) ≡ piecesBetween (pointAt (graphIn file .nodes) u) (pointAt (graphIn file .nodes) v) file + linksBetween (pointAt (graphIn file .nodes) u) (pointAt (graphIn file .nodes) v) file
+  graph-joining = rw graph-is (λ u v hu hv. built-joining (drawingIn file) u v hu hv ∙ drawn-between _ _)
+
+  pub graph-degree : (v : ℕ) → v < length (graphIn file .nodes) → degree (graphIn file .edges) v ≡ drawnAt (pointAt (graphIn file .nodes) v) file
+  graph-degree = rw graph-is (λ v hv. built-degree (drawingIn file) v hv ∙ drawn-at _)
+
+  pub nothing-between : (p q : Point) → (length (graphIn file .nodes) ≤ nodeOf (graphIn file .nodes) p) ⊎ (length (graphIn file .nodes) ≤ nodeOf (graphIn file .nodes) q)
+      → piecesBetween p q file + linksBetween p q file ≡ 0
+  nothing-between p q = rw graph-is (λ h. sym (drawn-between p q) ∙ built-none (drawingIn file) p q h)
+
+  pub nothing-at : (p : Point) → length (graphIn file .nodes) ≤ nodeOf (graphIn file .nodes) p → drawnAt p file ≡ 0
+  nothing-at p = rw graph-is (λ h. sym (drawn-at p) ∙ built-untouched (drawingIn file) p h)
+
+  -- ---- whatever the file, nodes are on the grid and no weight is negative
+
+  pub graph-on : (v : ℕ) → OnGrid (pointAt (graphIn file .nodes) v)
+  unfolding drawingIn
+  graph-on = rw graph-is (built-on (drawingIn file) (lines-on (recordsOf file)) (links-on (recordsOf file)))
+
+  pub graph-weights : (e : Edge) → In e (graphIn file .edges) → Nonneg binary64 (e .weight)
+  unfolding drawingIn
+  graph-weights = rw graph-is (built-weights (drawingIn file) (lines-on (recordsOf file)) (links-on (recordsOf file)))
+
+  -- and after check 6 there are few edges
+  pub graph-few : Fits file → length (graphIn file .edges) < 2 ^ 20
+  unfolding drawingIn
+  graph-few f = rw graph-is (counted-few (drawingIn file) (counts-fit (drawingIn file) (f .counts)))

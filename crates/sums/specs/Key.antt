@@ -1,0 +1,197 @@
+-- Floats that are not negative, by whole numbers: the key of a value is how many of the format's smallest units it is, with infinity at 2 ^ (emax + 1) as IEEE 754's
+-- rounding has it. Keys order such floats as `lt` does, and two floats with one key are one float. So what is claimed of their order is arithmetic.
+use mathlib.Core.Path.{_≡_, refl, sym, ap, _∙_, subst}
+use mathlib.Core.Bool.{Bool, true, false, not, _&&_}
+use Prim.Native.Nat.{ℕ, zero, suc, _+_, _-_, _*_, _/_, _%_, _^_, _≤_, _<_, zero-le}
+use native.Mathlib.Nat.{le-refl, le-trans, le-of-eq, le-of-lt, lt-of-not-le, not-le-of-lt, lt-of-mul-lt-mul-right, le-of-mul-le-mul-right, eq-of-mul-eq-mul-right, mul-assoc, mul-one, one-mul, mul-pos, mul-div-cancel, mul-le-mul-right, mul-lt-mul-of-pos-right, zero-mul}
+use native.Mathlib.Decide.{decLe}
+use native.Mathlib.Omega.{arith}
+use lib.IntN.{ℤ, pos, negsuc}
+use lib.Dec.{T, ltb, eqb, leb, eqb→eq, ltb→lt, leb→le, lt→ltb, lit<}
+use borrow.Author.Tests.{lt-ltb, le-ltb}
+use lib.Pow.{pow-pos, pow-add, pow-lt}
+use lib.Ieee.{Float, nan, inf, fin, Format, prec, emax, low, up, down, size, fits, isNan, lt, toBits, ofBits}
+use lib.Ieee.Fits.{up-pos, down-pos, and-l, and-r, two}
+use lib.Ieee.Bits.{ofBits-toBits}
+use lib.Ieee.Exact.{HasValue}
+use lib.Ieee.Scale.{overflow, finite}
+
+-- not below zero, not -0 and no NaN: infinity is among these
+abbrev pub nonneg : Float → Bool
+nonneg nan = false
+nonneg (inf s) = not s
+nonneg (fin s m e) = not s
+
+pub record Nonneg (f : Format) (x : Float) : Type 0 where
+  pub fit : T (fits f x)
+  pub sign : T (nonneg x)
+
+pub nonneg-number : (f : Format) (x : Float) → Nonneg f x → T (not (isNan x))
+unfolding isNan
+nonneg-number f nan p = absurd (p .sign)
+nonneg-number f (inf s) p = tt
+nonneg-number f (fin s m e) p = tt
+
+-- how many times 2 ^ -low the value is in size, its sign left out
+abbrev pub key : Format → Float → ℕ
+key f nan = 0
+key f (inf s) = overflow f
+key f (fin s m e) = m * up e * 2 ^ low f / down e
+
+-- ---- what `fits` says of a finite value
+module _ (f : Format) (s : Bool) where
+  few-digits : (m : ℕ) (e : ℤ) → T (fits f (fin s m e)) → m < 2 ^ prec f
+  unfolding fits
+  few-digits zero e h = pow-pos (prec f)
+  few-digits (suc m) e h =
+      let digits = eqb (suc m % 2) 1 && ltb (suc m) (2 ^ prec f) in
+      ltb→lt (suc m) (2 ^ prec f) (and-r (eqb (suc m % 2) 1) _ (and-l digits _ (and-l (digits && leb (down e) (2 ^ low f)) _ h)))
+
+  whole-units : (m : ℕ) (e : ℤ) → T (fits f (fin s m e)) → down e ≤ 2 ^ low f
+  unfolding fits
+  whole-units zero e h =
+      let one : up e * down e ≡ 1 = eqb→eq (up e * down e) 1 h in
+      omega (arith, mul-le-mul-right (down e) (up-pos e), pow-pos (low f))
+  whole-units (suc m) e h =
+      let digits = eqb (suc m % 2) 1 && ltb (suc m) (2 ^ prec f) in
+      leb→le (down e) (2 ^ low f) (and-r digits _ (and-l (digits && leb (down e) (2 ^ low f)) _ h))
+
+  below-overflow : (m : ℕ) (e : ℤ) → T (fits f (fin s m e)) → m * up e < 2 ^ suc (emax f) * down e
+  unfolding fits
+  below-overflow zero e h = omega (arith, zero-mul (up e), mul-pos (pow-pos (suc (emax f))) (down-pos e))
+  below-overflow (suc m) e h =
+      let digits = eqb (suc m % 2) 1 && ltb (suc m) (2 ^ prec f) in
+      ltb→lt (suc m * up e) (2 ^ suc (emax f) * down e) (and-r (digits && leb (down e) (2 ^ low f)) _ h)
+
+-- ---- a key is exact: a value is a whole number of units, the odd digits of its significand times a power of two
+
+le-of-pow-le : (a b : ℕ) → 2 ^ a ≤ 2 ^ b → a ≤ b
+le-of-pow-le a b h = elim (decLe a b) [ yes p ↦ p | no n ↦ absurd (not-le-of-lt (pow-lt (lt-of-not-le n)) h) ]
+
+-- 2 ^ e in units of 2 ^ -l
+power : (e : ℤ) (l : ℕ) → down e ≤ 2 ^ l → (j : ℕ) × (up e * 2 ^ l ≡ 2 ^ j * down e)
+power (pos k) l h = (k + l, sym (mul-one (2 ^ (k + l)) ∙ pow-add 2 k l))
+power (negsuc k) l h =
+    let d : suc k ≤ l = le-of-pow-le (suc k) l h in
+    let b : l ≡ l - suc k + suc k = omega arith in
+    (l - suc k, one-mul (2 ^ l) ∙ ap (λ (x : ℕ). 2 ^ x) b ∙ pow-add 2 (l - suc k) (suc k))
+
+module _ (f : Format) (s : Bool) (m : ℕ) (e : ℤ) (h : T (fits f (fin s m e))) where
+  in-units : (j : ℕ) × (m * up e * 2 ^ low f ≡ m * 2 ^ j * down e)
+  in-units =
+      let p = power e (low f) (whole-units f s m e h) in
+      (p .0, mul-assoc m (up e) (2 ^ low f) ∙ ap (λ (x : ℕ). m * x) (p .1) ∙ sym (mul-assoc m (2 ^ p .0) (down e)))
+
+  key-power : (j : ℕ) × (key f (fin s m e) ≡ m * 2 ^ j)
+  key-power = (in-units .0, ap (λ (x : ℕ). x / down e) (in-units .1) ∙ mul-div-cancel (m * 2 ^ in-units .0) (down-pos e))
+
+  pub key-exact : key f (fin s m e) * down e ≡ m * up e * 2 ^ low f
+  unfolding key-power
+  key-exact = ap (λ (x : ℕ). x * down e) (key-power .1) ∙ sym (in-units .1)
+
+  pub key-finite : key f (fin s m e) < overflow f
+  key-finite =
+      lt-of-mul-lt-mul-right (down e)
+      (rw (key-exact, pow-add 2 (low f) (suc (emax f))) (omega (arith, mul-lt-mul-of-pos-right (below-overflow f s m e h) (pow-pos (low f)))))
+
+pub key-top : (f : Format) (x : Float) → Nonneg f x → key f x ≤ overflow f
+key-top f nan p = zero-le
+key-top f (inf s) p = le-refl (overflow f)
+key-top f (fin s m e) p = le-of-lt (key-finite f s m e (p .fit))
+
+pub key-below-top : (f : Format) (x : Float) → T (fits f x) → T (finite x) → key f x < overflow f
+key-below-top f nan p t = absurd t
+key-below-top f (inf s) p t = absurd t
+key-below-top f (fin s m e) p t = key-finite f s m e p
+
+-- infinity too is a power of two times a number of few digits
+pub key-digits : (f : Format) (x : Float) → Nonneg f x → (m j : ℕ) × (m < 2 ^ prec f) × (key f x ≡ m * 2 ^ j)
+key-digits f nan p = absurd (p .sign)
+key-digits f (inf s) p = (1, low f + suc (emax f), pow-lt {i = 0} (le-trans (lit< tt) (two f)), sym (one-mul (overflow f)))
+key-digits f (fin s m e) p =
+    let k = key-power f s m e (p .fit) in
+    (m, k .0, few-digits f s m e (p .fit), k .1)
+
+-- ---- the order of keys is the order of floats
+
+-- fractions a / p and b / q of u and v units, l units in 1
+pub cross→units : (a p b q u v l : ℕ) → 0 < p → 0 < q → u * p ≡ a * l → v * q ≡ b * l → a * q ≤ b * p → u ≤ v
+cross→units a p b q u v l P Q h k c = le-of-mul-le-mul-right (omega (arith, ap (λ (x : ℕ). x * q) h, ap (λ (x : ℕ). x * p) k, mul-le-mul-right l c)) (mul-pos P Q)
+
+units→cross : (a p b q u v l : ℕ) → 0 < l → u * p ≡ a * l → v * q ≡ b * l → u ≤ v → a * q ≤ b * p
+units→cross a p b q u v l L h k c = le-of-mul-le-mul-right (omega (arith, ap (λ (x : ℕ). x * q) h, ap (λ (x : ℕ). x * p) k, mul-le-mul-right (p * q) c)) L
+
+same-test : (a b : Bool) → (T a → T b) → (T b → T a) → a ≡ b
+same-test true true h k = refl
+same-test true false h k = absurd (h tt)
+same-test false true h k = absurd (k tt)
+same-test false false h k = refl
+
+ltb-units : (a p b q u v l : ℕ) → 0 < l → 0 < p → 0 < q → u * p ≡ a * l → v * q ≡ b * l → ltb (a * q) (b * p) ≡ ltb u v
+ltb-units a p b q u v l L P Q h k =
+    same-test (ltb (a * q) (b * p)) (ltb u v)
+    (λ t. lt→ltb u v (lt-of-not-le (λ c. not-le-of-lt (ltb→lt (a * q) (b * p) t) (units→cross b q a p v u l L k h c))))
+    (λ t. lt→ltb (a * q) (b * p) (lt-of-not-le (λ c. not-le-of-lt (ltb→lt u v t) (cross→units b q a p v u l Q P k h c))))
+
+module _ (f : Format) where
+  pub lt-key : (x y : Float) → Nonneg f x → Nonneg f y → lt x y ≡ ltb (key f x) (key f y)
+  unfolding lt
+  lt-key nan y p q = absurd (p .sign)
+  lt-key (inf true) y p q = absurd (p .sign)
+  lt-key (fin true m e) y p q = absurd (p .sign)
+  lt-key (inf false) nan p q = absurd (q .sign)
+  lt-key (inf false) (inf true) p q = absurd (q .sign)
+  lt-key (inf false) (inf false) p q = sym (le-ltb (overflow f) (overflow f) (le-refl (overflow f)))
+  lt-key (inf false) (fin true n d) p q = absurd (q .sign)
+  lt-key (inf false) (fin false n d) p q = sym (le-ltb (overflow f) (key f (fin false n d)) (le-of-lt (key-finite f false n d (q .fit))))
+  lt-key (fin false m e) nan p q = absurd (q .sign)
+  lt-key (fin false m e) (inf true) p q = absurd (q .sign)
+  lt-key (fin false m e) (inf false) p q = sym (lt-ltb (key f (fin false m e)) (overflow f) (key-finite f false m e (p .fit)))
+  lt-key (fin false m e) (fin true n d) p q = absurd (q .sign)
+  lt-key (fin false m e) (fin false n d) p q =
+      ltb-units (m * up e) (down e) (n * up d) (down d) (key f (fin false m e)) (key f (fin false n d)) (2 ^ low f) (pow-pos (low f)) (down-pos e) (down-pos d)
+      (key-exact f false m e (p .fit)) (key-exact f false n d (q .fit))
+
+  -- a bit pattern is made from the key
+  same-bits : (m : ℕ) (e : ℤ) (n : ℕ) (d : ℤ) → key f (fin false m e) ≡ key f (fin false n d) → toBits f (fin false m e) ≡ toBits f (fin false n d)
+  unfolding toBits
+  same-bits m e n d k = ap (λ (w : ℕ). 0 + (size w - prec f) * 2 ^ (prec f - 1) + w / 2 ^ (size w - prec f)) k
+
+  pub key-inj : (x y : Float) → Nonneg f x → Nonneg f y → key f x ≡ key f y → x ≡ y
+  key-inj nan y p q h = absurd (p .sign)
+  key-inj (inf true) y p q h = absurd (p .sign)
+  key-inj (fin true m e) y p q h = absurd (p .sign)
+  key-inj (inf false) nan p q h = absurd (q .sign)
+  key-inj (inf false) (inf true) p q h = absurd (q .sign)
+  key-inj (inf false) (inf false) p q h = refl
+  key-inj (inf false) (fin true n d) p q h = absurd (q .sign)
+  key-inj (inf false) (fin false n d) p q h = absurd (not-le-of-lt (key-finite f false n d (q .fit)) (le-of-eq h))
+  key-inj (fin false m e) nan p q h = absurd (q .sign)
+  key-inj (fin false m e) (inf true) p q h = absurd (q .sign)
+  key-inj (fin false m e) (inf false) p q h = absurd (not-le-of-lt (key-finite f false m e (p .fit)) (le-of-eq (sym h)))
+  key-inj (fin false m e) (fin true n d) p q h = absurd (q .sign)
+  key-inj (fin false m e) (fin false n d) p q h =
+      sym (ofBits-toBits f (fin false m e) (p .fit)) ∙ ap (λ (b : ℕ). ofBits f b) (same-bits m e n d h) ∙ ofBits-toBits f (fin false n d) (q .fit)
+
+  -- ---- values as fractions: x is a / c, so its key is that many units
+  pub key-value : (x : Float) (a c : ℕ) → T (fits f x) → HasValue x false a c → key f x * c ≡ a * 2 ^ low f
+  key-value nan a c p v = absurd v
+  key-value (inf s) a c p v = absurd v
+  key-value (fin s m e) a c p v =
+      eq-of-mul-eq-mul-right (down e) (down-pos e) (key f (fin s m e) * c) (a * 2 ^ low f)
+      (omega (arith, ap (λ (n : ℕ). n * c) (key-exact f s m e p), ap (λ (n : ℕ). n * 2 ^ low f) (v .1)))
+
+  pub value-sign : (x : Float) (a c : ℕ) → HasValue x false a c → T (nonneg x)
+  value-sign nan a c v = absurd v
+  value-sign (inf s) a c v = absurd v
+  value-sign (fin s m e) a c v = subst (λ (b : Bool). T (not b)) (sym (v .0)) tt
+
+  pub value-finite : (x : Float) (a c : ℕ) → HasValue x false a c → T (finite x)
+  value-finite nan a c v = absurd v
+  value-finite (inf s) a c v = absurd v
+  value-finite (fin s m e) a c v = tt
+
+  pub value-inj : (x y : Float) (a c : ℕ) → 0 < c → T (fits f x) → T (fits f y) → HasValue x false a c → HasValue y false a c → x ≡ y
+  value-inj x y a c C p q v w =
+      key-inj x y (record { fit = p; sign = value-sign x a c v }) (record { fit = q; sign = value-sign y a c w })
+      (eq-of-mul-eq-mul-right c C (key f x) (key f y) (key-value x a c p v ∙ sym (key-value y a c q w)))
