@@ -27,7 +27,7 @@ find-suc p (q ∷ qs) i = go (same p q) (find-suc p qs (suc i))
     go true h = refl
     go false h = h
 
--- the first point is q or it is not
+-- in a list that begins with q: p is q and has the number 0, or its number is one more than among the others
 first : (p q : Point) (qs : List Point) → same p q ≡ true → nodeOf (q ∷ qs) p ≡ 0
 unfolding find
 first p q qs e = rw (e, find)
