@@ -1,10 +1,11 @@
 -- The graph of a drawing: nodes numbered by first use, edges in the order of pieces, then links; and the order in which a node's edges are looked at.
 use Prim.Native.Nat.{ℕ, zero, suc}
+use mathlib.Core.Path.{_≡_, refl}
 use mathlib.Core.List.{List, [], _∷_, _++_, map}
 use mathlib.Core.Bool.{Bool, true, false}
 use lib.ListN.{length, getD}
 use lib.Dec.{eqb, ltb}
-use lib.Ieee.{Float}
+use lib.Ieee.{Float, nan}
 use Rattle.length.specs.Root.{lengthOf, rootOver}
 use Rattle.drawing.specs.Drawing.{Point, same, Drawing}
 use Rattle.graph.specs.Chain.{Stroke, squared, piecesOf, linksOf, strokesOf, usesOf}
@@ -78,3 +79,18 @@ newestFirst near far v i (e ∷ es) found =
 unfoldable pub edgesAt : List Edge → ℕ → List Arc
 unfolding newestFirst
 edgesAt es v = newestFirst (λ (e : Edge). e .a) (λ (e : Edge). e .b) v 0 es (newestFirst (λ (e : Edge). e .b) (λ (e : Edge). e .a) v 0 es [])
+
+-- ---- worked examples
+
+abbrev at : ℕ → ℕ → Point
+at x y = record { x = x; y = y }
+
+-- numbers by first use
+first-use : firstUses [] (at 1 1 ∷ at 2 1 ∷ at 1 1 ∷ at 5 5 ∷ at 2 1 ∷ []) ≡ at 1 1 ∷ at 2 1 ∷ at 5 5 ∷ []
+unfolding firstUses
+first-use = refl
+
+-- first ends before second ends, the newest first
+order : map (λ (r : Arc). r .number) (edgesAt (edge 0 1 nan ∷ edge 0 2 nan ∷ edge 1 0 nan ∷ edge 2 0 nan ∷ []) 0) ≡ 1 ∷ 0 ∷ 3 ∷ 2 ∷ []
+unfolding edgesAt
+order = refl

@@ -18,4 +18,3 @@ pub mod Between
 pub mod Built
 pub mod Few
 pub mod Reached
-pub mod Cases

@@ -14,4 +14,3 @@ pub mod Matched
 pub mod Applied
 pub mod Repaired
 pub mod Stops
-pub mod Cases

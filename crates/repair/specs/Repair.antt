@@ -1,16 +1,18 @@
 -- fix_parity: pairs of odd nodes are joined by retraces, so that none or two nodes are left odd.
 use Prim.Native.Nat.{ℕ, zero, suc, _+_, _*_, _^_}
+use mathlib.Core.Path.{_≡_, refl}
 use mathlib.Core.List.{List, [], _∷_, _++_}
 use mathlib.Core.Bool.{Bool, true, false, _&&_, _||_, not}
 use lib.ListN.{length, getD}
 use lib.Dec.{eqb, leb, ltb}
-use lib.Ieee.{Float, binary64, add}
+use lib.IntN.{pos, negsuc}
+use lib.Ieee.{Float, fin, binary64, add}
 use Rattle.drawing.specs.Drawing.{Point, Settings, optimal, closing}
 use Rattle.limits.specs.Limits.{mostEdges}
-use Rattle.graph.specs.Graph.{Edge, Graph}
+use Rattle.graph.specs.Graph.{Edge, edge, Graph}
 use Rattle.graph.specs.Degree.{oddNodes, oddFrom}
 use Rattle.repair.specs.Distance.{distances, distanceAt, infinity, zeroLength}
-use Rattle.repair.specs.Retrace.{Path, found, error, shortestPath, Laid, layPath}
+use Rattle.repair.specs.Retrace.{Path, found, error, shortestPath, Laid, layPath, tiny}
 use Rattle.repair.specs.Pairing.{Pair, pair, greedyPairs, optimalPairs}
 
 -- the graph's edges with the copies, the retraces that laid them, in order, and the length of the retraces
@@ -103,3 +105,15 @@ tooManyOdd most s n = optimal s && ltb most n
 -- 2 ^ n + n² entries of f64 and 2 ^ n of bytes, for n from 4 to the most
 unfoldable pub tableShort : ℕ → Settings → ℕ → ℕ → ℕ → Bool
 tableShort most s n floats bytes = optimal s && leb 4 n && leb n most && (ltb floats (2 ^ n + n * n) || ltb bytes (2 ^ n))
+
+-- ---- worked examples
+
+-- The closing retrace is summed by itself, 2 ^ -53 + 2 ^ -53, and then added to 1: one running sum would stay at 1.
+summed-apart : close 3 (record { edges = edge 0 1 tiny ∷ edge 1 2 tiny ∷ []; retraces = []; sum = fin false 1 (pos 0) })
+    ≡ repaired (record {
+      edges = edge 0 1 tiny ∷ edge 1 2 tiny ∷ edge 0 1 tiny ∷ edge 1 2 tiny ∷ [];
+      retraces = (0 ∷ 1 ∷ 2 ∷ []) ∷ [];
+      sum = fin false 4503599627370497 (negsuc 51);
+    })
+unfolding close
+summed-apart = refl

@@ -1,5 +1,6 @@
 -- The line: the walk, cut at the virtual edge's step, and turned so that its better end comes first.
 use Prim.Native.Nat.{ℕ, zero, suc, _+_}
+use mathlib.Core.Path.{_≡_, refl}
 use mathlib.Core.List.{List, [], _∷_, _++_, map, reverse}
 use mathlib.Core.Bool.{Bool, true, false}
 use lib.ListN.{length, getD, drop}
@@ -62,6 +63,11 @@ euler s ns es =
           let v = getD odd 1 0 in
           map (λ (t : Entry). t .node) (cutAt (length es) [] (circuit (es ++ (edge u v zeroLength ∷ [])) (best s ns odd)))
     ]
+
+-- The departure of docs/DIFFERENCES.md, at its smallest: one segment. The virtual edge has the same two ends as the segment, and only its own step is cut.
+one-segment : euler (record { width = 0; height = 0; pairing = 0; flags = 0 }) (record { x = 0; y = 0 } ∷ record { x = 3; y = 4 } ∷ []) (edge 0 1 zeroLength ∷ []) ≡ 1 ∷ 0 ∷ []
+unfolding euler
+one-segment = refl
 
 unfoldable pub hierholzer : Settings → List Point → List Edge → List ℕ
 unfolding euler
