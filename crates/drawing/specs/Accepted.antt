@@ -1,7 +1,7 @@
 -- A file that meets none of conditions 1 to 8 passes each check, and its points are exactly those that the coordinates' bits stand for.
 use mathlib.Core.Path.{_≡_, refl, sym, ap, _∙_}
 use mathlib.Core.List.{List, [], _∷_, _++_, map}
-use mathlib.Core.Bool.{Bool, true, false, _&&_, not}
+use mathlib.Core.Bool.{Bool, true, false, _&&_, true≢false}
 use Prim.Native.Nat.{ℕ, zero, suc, _*_, _/_, _%_, _≤_}
 use native.Mathlib.Omega.{arith}
 use lib.ListN.{length, drop}
@@ -19,6 +19,16 @@ use Rattle.drawing.specs.Same.{both}
 use Rattle.drawing.specs.Refusal.{Condition, condition, accepted, verdict}
 use Rattle.drawing.specs.Read.{words, placeAt, onGrid, points, point, lineOf, linkOf, bodies, drawingOf, every, total, kindsFit, lengthsFit, settingsFit, countsFit, coordinatesFit, linksFit, recordsOf, isCut, readConditions}
 
+-- where the verdict is that a file is accepted, none of its conditions holds
+abbrev pub Fails : Condition → Type 0
+Fails (condition n t) = t ≡ false
+
+pub none-holds : (cs : List Condition) → verdict cs ≡ accepted → All Fails cs
+unfolding verdict
+none-holds [] e = tt
+none-holds (condition n true ∷ cs) e = absurd (true≢false (cc))
+none-holds (condition n false ∷ cs) e = (refl, none-holds cs e)
+
 -- ---- each check passes
 
 pub record Fits (file : List ℕ) : Type 0 where
@@ -31,32 +41,19 @@ pub record Fits (file : List ℕ) : Type 0 where
   pub coordinates : coordinatesFit (recordsOf file) ≡ true
   pub links : linksFit (drawingOf (recordsOf file)) ≡ true
 
--- none of the conditions holds: not the first, and none of the others
-pub none : (n : ℕ) (t : Bool) (cs : List Condition) → verdict (condition n t ∷ cs) ≡ accepted → (t ≡ false) × (verdict cs ≡ accepted)
-unfolding verdict
-none n true cs e = let z : _≡_ {A = ℕ} 0 1 = cc in absurd (omega arith)
-none n false cs e = (refl, e)
-
 pub accepted-fits : (file : List ℕ) → verdict (readConditions file) ≡ accepted → Fits file
 unfolding readConditions
 accepted-fits file e =
-    let c₁ = none 1 _ _ e in
-    let c₂ = none 2 _ _ (c₁ .1) in
-    let c₃ = none 3 _ _ (c₂ .1) in
-    let c₄ = none 4 _ _ (c₃ .1) in
-    let c₅ = none 5 _ _ (c₄ .1) in
-    let c₆ = none 6 _ _ (c₅ .1) in
-    let c₇ = none 7 _ _ (c₆ .1) in
-    let c₈ = none 8 _ _ (c₇ .1) in
+    let c = none-holds (readConditions file) e in
     record {
-      size = ltb-false mostBytes (length file) (c₁ .0);
-      uncut = c₂ .0;
-      kinds = not-false (kindsFit (recordsOf file)) (c₃ .0);
-      lengths = not-false (lengthsFit (recordsOf file)) (c₄ .0);
-      settings = not-false (settingsFit (drawingOf (recordsOf file) .settings)) (c₅ .0);
-      counts = not-false (countsFit (drawingOf (recordsOf file))) (c₆ .0);
-      coordinates = not-false (coordinatesFit (recordsOf file)) (c₇ .0);
-      links = not-false (linksFit (drawingOf (recordsOf file))) (c₈ .0);
+      size = ltb-false mostBytes (length file) (c .0);
+      uncut = c .1 .0;
+      kinds = not-false (kindsFit (recordsOf file)) (c .1 .1 .0);
+      lengths = not-false (lengthsFit (recordsOf file)) (c .1 .1 .1 .0);
+      settings = not-false (settingsFit (drawingOf (recordsOf file) .settings)) (c .1 .1 .1 .1 .0);
+      counts = not-false (countsFit (drawingOf (recordsOf file))) (c .1 .1 .1 .1 .1 .0);
+      coordinates = not-false (coordinatesFit (recordsOf file)) (c .1 .1 .1 .1 .1 .1 .0);
+      links = not-false (linksFit (drawingOf (recordsOf file))) (c .1 .1 .1 .1 .1 .1 .1 .0);
     }
 
 -- ---- check 6
@@ -88,7 +85,7 @@ placesOf (p ∷ ps) = On (p .x) ∷ On (p .y) ∷ placesOf ps
 -- where a place is on the grid, it is the one that is read
 found : (x : Place) → onGrid x ≡ true → x ≡ On (placeAt x)
 found (On p) e = refl
-found Off e = let z : _≡_ {A = ℕ} 0 1 = cc in absurd (omega arith)
+found Off e = absurd (true≢false (sym e))
 
 abbrev passes : ℕ → Bool
 passes w = onGrid (readPlace w)

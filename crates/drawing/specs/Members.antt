@@ -1,8 +1,10 @@
 -- The elements of a list: what it is to be one of them, and what holds of each.
-use mathlib.Core.Path.{_≡_, refl, sym, subst}
+use Prim.Native.Nat.{ℕ, zero, suc}
+use mathlib.Core.Path.{_≡_, refl, sym, ap, subst}
 use mathlib.Core.Logic.{_⊎_, inl, inr}
 use mathlib.Core.Bool.{Bool, true, false}
 use mathlib.Core.List.{List, [], _∷_, _++_, map}
+use lib.ListN.{getD, set, replicate}
 
 abbrev pub In : {A : Type 0} → A → List A → Type 0
 In x [] = ⊥
@@ -22,6 +24,11 @@ module _ {A : Type 0} where
   pub in-left : (x : A) (xs ys : List A) → In x xs → In x (xs ++ ys)
   in-left x (y ∷ xs) ys (inl e) = inl e
   in-left x (y ∷ xs) ys (inr i) = inr (in-left x xs ys i)
+
+  pub in-append : (x : A) (xs ys : List A) → In x (xs ++ ys) → In x xs ⊎ In x ys
+  in-append x [] ys i = inr i
+  in-append x (y ∷ xs) ys (inl e) = inl (inl e)
+  in-append x (y ∷ xs) ys (inr i) = elim (in-append x xs ys i) [ inl k ↦ inl (inr k) | inr k ↦ inr k ]
 
   module _ (P : A → Type 0) where
     pub all-in : (xs : List A) → All P xs → (x : A) → In x xs → P x
@@ -44,8 +51,21 @@ module _ {A : Type 0} where
     all-back [] ys a = a
     all-back (x ∷ xs) ys a = all-back xs ys (a .1)
 
-  pub all-own : (xs : List A) → All (λ (x : A). In x xs) xs
-  all-own xs = in-all (λ (x : A). In x xs) xs (λ x i. i)
+-- ---- elements by their places
+
+-- an element read after `set` is the one set, or as before
+pub set-cases : {A : Type 0} (xs : List A) (i : ℕ) (a d : A) (j : ℕ) → ((j ≡ i) × (getD (set xs i a) j d ≡ a)) ⊎ (getD (set xs i a) j d ≡ getD xs j d)
+set-cases [] i a d j = inr refl
+set-cases (x ∷ xs) zero a d zero = inl (refl, refl)
+set-cases (x ∷ xs) zero a d (suc j) = inr refl
+set-cases (x ∷ xs) (suc i) a d zero = inr refl
+set-cases (x ∷ xs) (suc i) a d (suc j) = elim (set-cases xs i a d j) [ inl p ↦ inl (ap suc (p .0), p .1) | inr e ↦ inr e ]
+
+-- a list of one element, whatever the place
+pub getD-same : {A : Type 0} (n i : ℕ) (a : A) → getD (replicate n a) i a ≡ a
+getD-same zero i a = refl
+getD-same (suc n) zero a = refl
+getD-same (suc n) (suc i) a = getD-same n i a
 
 -- what holds of the images
 pub all-map : {A B : Type 0} (f : A → B) (P : B → Type 0) (xs : List A) → All (λ (x : A). P (f x)) xs → All P (map f xs)

@@ -1,7 +1,7 @@
 -- Every point of a drawing lies on the grid, whatever the file.
 use mathlib.Core.Path.{_≡_, refl}
 use mathlib.Core.List.{List}
-use mathlib.Core.Bool.{Bool, true, false, cond}
+use mathlib.Core.Bool.{Bool, true, false, true≢false, cond}
 use Prim.Native.Nat.{ℕ, zero, suc, _+_, _-_, _*_, _/_, _^_, _≤_, zero-le}
 use native.Mathlib.Omega.{arith}
 use lib.ListN.{length, drop}
@@ -27,8 +27,8 @@ AtEnds P k = P (k .first .point) × P (k .second .point)
 
 place-below : (g : ℕ) (x : Float) (p : ℕ) → placeOnGrid g x ≡ On p → p ≤ 2 * originOfGrid g
 unfolding placeOnGrid
-place-below g nan p e = let z : _≡_ {A = ℕ} 0 1 = cc in absurd (omega arith)
-place-below g (inf s) p e = let z : _≡_ {A = ℕ} 0 1 = cc in absurd (omega arith)
+place-below g nan p e = absurd (true≢false (cc))
+place-below g (inf s) p e = absurd (true≢false (cc))
 place-below g (fin s m x) p e = let is = passed (originOfGrid g) s (m * up x * 2 ^ g) (down x) p e in go s (is .is) (is .near)
   where
     go : (s : Bool) → p ≡ cond s (originOfGrid g - m * up x * 2 ^ g / down x) (originOfGrid g + m * up x * 2 ^ g / down x) → m * up x * 2 ^ g / down x ≤ originOfGrid g → p ≤ 2 * originOfGrid g

@@ -9,6 +9,7 @@ use lib.ListN.{length, getD}
 use lib.Dec.{eqb}
 use lib.Ieee.{nan}
 use borrow.Author.Tests.{eqb-true, eq-eqb}
+use Rattle.drawing.specs.Members.{either}
 use Rattle.graph.specs.Graph.{Edge, edge, Arc, newestFirst, edgesAt}
 use Rattle.graph.specs.Ways.{In, Joins, Joined}
 
@@ -53,11 +54,6 @@ record Seen (near far : Edge → ℕ) (v i : ℕ) (es : List Edge) (r : Arc) : T
   is : r ≡ arcOf far (i + place) (edgeAt es place)
   at : near (edgeAt es place) ≡ v
 
--- what holds of both holds of the one chosen
-either : {A : Type 0} (P : A → Type 0) (t : Bool) (x y : A) → P x → P y → P (elim t [ true ↦ x | false ↦ y ])
-either P true x y p q = p
-either P false x y p q = q
-
 module _ (near far : Edge → ℕ) (v : ℕ) where
   -- an arc was found before, or is seen from v
   newest-seen : (i : ℕ) (es : List Edge) (found : List Arc) (r : Arc) → In r (newestFirst near far v i es found) → In r found ⊎ Seen near far v i es r
@@ -84,7 +80,7 @@ module _ (near far : Edge → ℕ) (v : ℕ) where
   unfolding newestFirst
   newest-keeps i [] found r h = h
   newest-keeps i (e ∷ es) found r h =
-      either (In r) (eqb (near e) v) _ _ (newest-keeps (suc i) es (arcOf far i e ∷ found) r (inr h)) (newest-keeps (suc i) es found r h)
+      either (In r) _ _ (newest-keeps (suc i) es (arcOf far i e ∷ found) r (inr h)) (newest-keeps (suc i) es found r h) (eqb (near e) v)
 
   -- every edge whose near end is v has its arc
   newest-has : (i : ℕ) (es : List Edge) (found : List Arc) (j : ℕ) → j < length es → near (edgeAt es j) ≡ v
@@ -94,8 +90,8 @@ module _ (near far : Edge → ℕ) (v : ℕ) where
   newest-has i (x ∷ es) found zero h e =
       rw (newestFirst, eq-eqb (near x) v e, add-zero) (newest-keeps (suc i) es (arcOf far i x ∷ found) (arcOf far i x) (inl refl))
   newest-has i (x ∷ es) found (suc j) h e =
-      rw (add-suc, ← suc-add) (either (In (arcOf far (suc i + j) (edgeAt es j))) (eqb (near x) v) _ _
-      (newest-has (suc i) es (arcOf far i x ∷ found) j (le-of-suc-le-suc h) e) (newest-has (suc i) es found j (le-of-suc-le-suc h) e))
+      rw (add-suc, ← suc-add) (either (In (arcOf far (suc i + j) (edgeAt es j))) _ _
+      (newest-has (suc i) es (arcOf far i x ∷ found) j (le-of-suc-le-suc h) e) (newest-has (suc i) es found j (le-of-suc-le-suc h) e) (eqb (near x) v))
 
 -- ---- by both
 

@@ -40,30 +40,25 @@ unfolding sumFrom
 sum-same f g zero v h = refl
 sum-same f g (suc n) v h = ap₂ (λ (a b : ℕ). a + b) (h v (omega arith) (omega arith)) (sum-same f g n (suc v) (λ u a b. h u (omega arith) (omega arith)))
 
--- a node counts once if it is among them, and not at all if it stands before them
-sum-miss : (u n v : ℕ) → u < v → sumFrom (hit u) n v ≡ 0
+pub sum-none : (f : ℕ → ℕ) (n v : ℕ) → ((u : ℕ) → v ≤ u → u < v + n → f u ≡ 0) → sumFrom f n v ≡ 0
 unfolding sumFrom
-sum-miss u zero v h = refl
-sum-miss u (suc n) v h = omega (arith, hit-other u v (omega arith), sum-miss u n (suc v) (omega arith))
+sum-none f zero v h = refl
+sum-none f (suc n) v h = omega (arith, h v (omega arith) (omega arith), sum-none f n (suc v) (λ u a b. h u (omega arith) (omega arith)))
 
+-- a node among them counts once
 pub sum-hit : (u n v : ℕ) → v ≤ u → u < v + n → sumFrom (hit u) n v ≡ 1
 unfolding sumFrom
 sum-hit u zero v h k = absurd (omega arith)
 sum-hit u (suc n) v h k = go (hit-cases u v) (λ l. sum-hit u n (suc v) l (omega arith))
   where
     go : HitCases u v → (v < u → sumFrom (hit u) n (suc v) ≡ 1) → hit u v + sumFrom (hit u) n (suc v) ≡ 1
-    go (inl p) r = omega (arith, sum-miss u n (suc v) (omega arith))
+    go (inl p) r = omega (arith, sum-none (hit u) n (suc v) (λ w a b. hit-other u w (omega arith)))
     go (inr p) r = omega (arith, r (omega arith))
-
-pub sum-none : (n v : ℕ) → sumFrom (λ (u : ℕ). 0) n v ≡ 0
-unfolding sumFrom
-sum-none zero v = refl
-sum-none (suc n) v = omega (arith, sum-none n (suc v))
 
 -- so the degrees add up to twice the number of edges
 sum-degree : (n : ℕ) (es : List Edge) → Inside n es → sumFrom (degree es) n 0 ≡ length es + length es
 unfolding degree
-sum-degree n [] h = sum-none n 0
+sum-degree n [] h = sum-none (degree []) n 0 (λ u a b. refl)
 sum-degree n (e ∷ es) h =
     let i = h e (inl refl) in
     omega (

@@ -1,12 +1,11 @@
--- Laws of lines: sums of steps and ends of two lines joined, of a line's image and of a line reversed.
+-- Laws of lines: sums of steps and ends of two lines joined and of a line reversed, and the end of a line's image.
 use mathlib.Core.Path.{_≡_, refl, sym, ap, _∙_}
-use mathlib.Core.Logic.{_⊎_, inl, inr}
 use mathlib.Core.List.{List, [], _∷_, _++_, map, reverse, reverseAux}
 use Prim.Native.Nat.{ℕ, _+_}
 use native.Mathlib.Nat.{zero-add, add-zero}
 use native.Mathlib.Omega.{arith}
+use Rattle.drawing.specs.Members.{All}
 use Rattle.graph.specs.Count.{stepSum, lineSum, lastFrom}
-use Rattle.graph.specs.Ways.{In, All}
 
 -- ---- one line after another
 
@@ -19,40 +18,6 @@ pub lastFrom-append : {A : Type 0} (x : A) (xs ys : List A) → lastFrom x (xs +
 unfolding lastFrom
 lastFrom-append x [] ys = refl
 lastFrom-append x (y ∷ xs) ys = lastFrom-append y xs ys
-
-pub all-append : {A : Type 0} (P : A → Type 0) (xs ys : List A) → All P xs → All P ys → All P (xs ++ ys)
-all-append P [] ys p q = q
-all-append P (x ∷ xs) ys p q = (p .0, all-append P xs ys (p .1) q)
-
-pub all-front : {A : Type 0} (P : A → Type 0) (xs ys : List A) → All P (xs ++ ys) → All P xs
-all-front P [] ys p = tt
-all-front P (x ∷ xs) ys p = (p .0, all-front P xs ys (p .1))
-
-pub all-back : {A : Type 0} (P : A → Type 0) (xs ys : List A) → All P (xs ++ ys) → All P ys
-all-back P [] ys p = p
-all-back P (x ∷ xs) ys p = all-back P xs ys (p .1)
-
-pub in-front : {A : Type 0} (x : A) (xs ys : List A) → In x xs → In x (xs ++ ys)
-in-front x [] ys h = absurd h
-in-front x (y ∷ xs) ys (inl e) = inl e
-in-front x (y ∷ xs) ys (inr h) = inr (in-front x xs ys h)
-
-pub in-append : {A : Type 0} (x : A) (xs ys : List A) → In x (xs ++ ys) → In x xs ⊎ In x ys
-in-append x [] ys h = inr h
-in-append x (y ∷ xs) ys (inl e) = inl (inl e)
-in-append x (y ∷ xs) ys (inr h) = elim (in-append x xs ys h) [ inl k ↦ inl (inr k) | inr k ↦ inr k ]
-
--- ---- the image of a line
-
-stepSum-map : {A B : Type 0} (f : A → B) (w : B → B → ℕ) (x : A) (xs : List A) → stepSum w (f x) (map f xs) ≡ stepSum (λ (a b : A). w (f a) (f b)) x xs
-unfolding stepSum
-stepSum-map f w x [] = refl
-stepSum-map f w x (y ∷ xs) = ap (λ (n : ℕ). w (f x) (f y) + n) (stepSum-map f w y xs)
-
-pub lineSum-map : {A B : Type 0} (f : A → B) (w : B → B → ℕ) (line : List A) → lineSum w (map f line) ≡ lineSum (λ (a b : A). w (f a) (f b)) line
-unfolding lineSum
-lineSum-map f w [] = refl
-lineSum-map f w (x ∷ xs) = stepSum-map f w x xs
 
 pub lastFrom-map : {A B : Type 0} (f : A → B) (x : A) (xs : List A) → lastFrom (f x) (map f xs) ≡ f (lastFrom x xs)
 unfolding lastFrom

@@ -2,13 +2,14 @@
 use mathlib.Core.Path.{_≡_, refl}
 use mathlib.Core.Logic.{inl, inr, _↔_}
 use mathlib.Core.List.{List, [], _∷_}
-use mathlib.Core.Bool.{Bool, true, false}
+use mathlib.Core.Bool.{Bool, true, false, true≢false}
 use Prim.Native.Nat.{ℕ, zero, suc, _+_, _%_, _≤_, _<_}
 use native.Mathlib.Nat.{lt-of-not-le}
 use native.Mathlib.Decide.{ℕ-discrete}
 use native.Mathlib.Omega.{arith}
 use lib.Dec.{eqb}
 use borrow.Author.Tests.{eqb-true, eq-eqb}
+use Rattle.drawing.specs.Members.{either}
 use Rattle.graph.specs.Graph.{Edge}
 use Rattle.graph.specs.Degree.{degree, isOdd, oddFrom, oddNodes}
 use Rattle.graph.specs.Ways.{In, Inside}
@@ -43,15 +44,13 @@ oddFrom-has es zero u v p = absurd (empty (p .low) (p .high))
 oddFrom-has es (suc n) u v p =
     elim (ℕ-discrete v u) [
       | yes e ↦ rw (oddFrom, here e) (inl e)
-      | no e ↦ go (isOdd (degree es u)) (oddFrom-has es n (suc u) v (record { low = omega arith; high = omega arith; odd = p .odd }))
+      | no e ↦
+          let later = oddFrom-has es n (suc u) v (record { low = omega arith; high = omega arith; odd = p .odd }) in
+          either (In v) _ _ (inr later) later (isOdd (degree es u))
     ]
   where
     here : v ≡ u → isOdd (degree es u) ≡ true
     here e = eq-eqb (degree es u % 2) 1 (rw (← e) (p .odd))
-
-    go : (t : Bool) → In v (oddFrom es n (suc u)) → In v (elim t [ true ↦ u ∷ oddFrom es n (suc u) | false ↦ oddFrom es n (suc u) ])
-    go true k = inr k
-    go false k = k
 
 pub oddNodes-member : (n : ℕ) (es : List Edge) (v : ℕ) → In v (oddNodes n es) ↔ ((v < n) × (degree es v % 2 ≡ 1))
 oddNodes-member n es v = (
@@ -59,25 +58,10 @@ oddNodes-member n es v = (
   λ k. oddFrom-has es n 0 v (record { low = omega arith; high = omega (arith, k .0); odd = k .1 }),
 )
 
--- a graph with the same parity at every node has the same odd nodes
-oddFrom-same : (es fs : List Edge) (n u : ℕ) → ((v : ℕ) → v < u + n → degree es v % 2 ≡ degree fs v % 2) → oddFrom es n u ≡ oddFrom fs n u
-unfolding oddFrom
-oddFrom-same es fs zero u h = refl
-oddFrom-same es fs (suc n) u h =
-    let here : degree es u % 2 ≡ degree fs u % 2 = h u (omega arith) in
-    let later = oddFrom-same es fs n (suc u) (λ v k. h v (omega arith)) in
-    λ i. elim (eqb (here i) 1) [ true ↦ u ∷ later i | false ↦ later i ]
-
-pub oddNodes-same : (n : ℕ) (es fs : List Edge) → ((v : ℕ) → v < n → degree es v % 2 ≡ degree fs v % 2) → oddNodes n es ≡ oddNodes n fs
-oddNodes-same n es fs h = oddFrom-same es fs n 0 (λ v k. h v (omega arith))
-
 -- the odd nodes ascend
 oddFrom-ascends : (es : List Edge) (n k u : ℕ) (us : List ℕ) → oddFrom es n k ≡ u ∷ us → (v : ℕ) → In v us → u < v
 unfolding oddFrom
-oddFrom-ascends es zero k u us h v i = absurd (never h)
-  where
-    never : _≡_ {A = List ℕ} [] (u ∷ us) → ⊥
-    never e = let z : _≡_ {A = ℕ} 0 1 = cc in omega arith
+oddFrom-ascends es zero k u us h v i = absurd (true≢false (cc))
 oddFrom-ascends es (suc n) k u us h v i = go (isOdd (degree es k)) (λ e. oddFrom-ascends es n (suc k) u us e v i) h
   where
     go : (t : Bool) → (oddFrom es n (suc k) ≡ u ∷ us → u < v) → elim t [ true ↦ k ∷ oddFrom es n (suc k) | false ↦ oddFrom es n (suc k) ] ≡ u ∷ us → u < v

@@ -8,7 +8,7 @@ use native.Mathlib.Nat.{not-suc-le-zero, le-of-suc-le-suc}
 use native.Mathlib.Omega.{arith}
 use lib.ListN.{length, getD, set, replicate, length-set, length-replicate}
 use lib.Seq.{getD-set-same}
-use Rattle.drawing.specs.Members.{In, All, all-in}
+use Rattle.drawing.specs.Members.{In, All, all-in, set-cases, getD-same}
 use Rattle.graph.specs.Graph.{Edge}
 use Rattle.graph.specs.Degree.{one}
 use Rattle.graph.specs.Count.{sumOver}
@@ -52,11 +52,7 @@ started n = length-set (replicate n false) 0 true ∙ length-replicate n false
 -- ---- every node that can be reached is marked: each sweep marks one more, or the marks are closed under edges, and there are only n to mark
 
 set-keeps : (ms : List Bool) (u v : ℕ) → Marked ms v → Marked (set ms u true) v
-set-keeps [] u v m = m
-set-keeps (b ∷ ms) zero zero m = refl
-set-keeps (b ∷ ms) zero (suc v) m = m
-set-keeps (b ∷ ms) (suc u) zero m = m
-set-keeps (b ∷ ms) (suc u) (suc v) m = set-keeps ms u v m
+set-keeps ms u v m = elim (set-cases ms u true false v) [ inl p ↦ p .1 | inr e ↦ e ∙ m ]
 
 sweep-keeps : (es : List Edge) (ms : List Bool) (v : ℕ) → Marked ms v → Marked (sweep es ms) v
 unfolding sweep
@@ -173,11 +169,7 @@ reached-all (suc n) es i r =
 -- ---- only nodes that can be reached are marked
 
 set-marks : (ms : List Bool) (u v : ℕ) → Marked (set ms u true) v → (v ≡ u) ⊎ Marked ms v
-set-marks [] u v m = inr m
-set-marks (b ∷ ms) zero zero m = inl refl
-set-marks (b ∷ ms) zero (suc v) m = inr m
-set-marks (b ∷ ms) (suc u) zero m = inr m
-set-marks (b ∷ ms) (suc u) (suc v) m = elim (set-marks ms u v m) [ inl e ↦ inl (ap suc e) | inr n ↦ inr n ]
+set-marks ms u v m = elim (set-cases ms u true false v) [ inl p ↦ inl (p .0) | inr e ↦ inr (sym e ∙ m) ]
 
 abbrev Sound : List Edge → List Bool → Type 0
 Sound es ms = (v : ℕ) → Marked ms v → Reach es 0 v
@@ -202,12 +194,7 @@ module _ (all : List Edge) where
   sweeps-sound (suc k) ms s = sweeps-sound k (sweep all ms) (sweep-sound all ms (λ e i. i) s)
 
   start-sound : (n : ℕ) → Sound all (set (replicate n false) 0 true)
-  start-sound n v m = elim (set-marks (replicate n false) 0 v m) [ inl e ↦ subst (λ (k : ℕ). Reach all 0 k) (sym e) here | inr h ↦ absurd (false≢true (sym (unmarked n v) ∙ h)) ]
-    where
-      unmarked : (n v : ℕ) → getD (replicate n false) v false ≡ false
-      unmarked zero v = refl
-      unmarked (suc n) zero = refl
-      unmarked (suc n) (suc v) = unmarked n v
+  start-sound n v m = elim (set-marks (replicate n false) 0 v m) [ inl e ↦ subst (λ (k : ℕ). Reach all 0 k) (sym e) here | inr h ↦ absurd (false≢true (sym (getD-same n v false) ∙ h)) ]
 
 all-marked : (ms : List Bool) → allTrue ms ≡ true → (v : ℕ) → v < length ms → Marked ms v
 unfolding allTrue

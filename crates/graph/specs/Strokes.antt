@@ -8,7 +8,7 @@ use native.Mathlib.Omega.{arith}
 use lib.Dec.{eqb, leb}
 use Rattle.drawing.specs.Drawing.{Point, same, End, Link, Drawing}
 use Rattle.drawing.specs.Same.{same-true, differ}
-use Rattle.drawing.specs.Members.{In, All, either, all-append, all-front, all-back, all-own}
+use Rattle.drawing.specs.Members.{All, either, all-append, all-front, all-back}
 use Rattle.drawing.specs.OnGrid.{AtEnds}
 use Rattle.graph.specs.Chain.{squared, Stroke, stroke, naming, splits, insert, sort, inner, changes, distinct, chain, pieces, linePieces, lineUses, piecesFrom, usesFrom, piecesOf, linkStrokes, linksOf, strokesOf, linkUses, usesOf}
 use Rattle.graph.specs.Degree.{one}
@@ -27,7 +27,7 @@ lies-still p q a d = go (same a p) (same a q) refl refl
     go false false e f = refl
 
 -- and nothing between different points lies between a point and itself
-lies-own : (p a b : Point) → same a b ≡ false → lies p p a b ≡ 0
+pub lies-own : (p a b : Point) → same a b ≡ false → lies p p a b ≡ 0
 lies-own p a b d = go (same a p) (same b p) refl refl
   where
     go : (s t : Bool) → same a p ≡ s → same b p ≡ t → one ((s && t) || (s && t)) ≡ 0
@@ -105,10 +105,6 @@ module _ (P : Point → Type 0) where
       let lines = usesFrom (d .links) 0 (d .lines) in
       all-append (Between P) (piecesOf d) (linksOf d)
       (lines-between (d .links) 0 (d .lines) (all-front P lines (linkUses (d .links)) u)) (links-between (d .links) (all-back P lines (linkUses (d .links)) u))
-
--- so the ends of every stroke are points of use
-pub strokes-used : (d : Drawing) → All (Between (λ (p : Point). In p (usesOf d))) (strokesOf d)
-strokes-used d = strokes-between (λ (p : Point). In p (usesOf d)) d (all-own (usesOf d))
 
 -- ---- what holds of every point of a line and every end of a link holds of every point of use
 

@@ -1,8 +1,8 @@
 -- Laws of the sums over edges: what one edge gives to a degree or to the edges between two nodes, and sums over two lists.
-use mathlib.Core.Path.{_≡_, refl, sym, ap}
+use mathlib.Core.Path.{_≡_, refl, sym, ap, ap₂, _∙_}
 use mathlib.Core.Logic.{inl, inr}
 use mathlib.Core.List.{List, [], _∷_, _++_}
-use mathlib.Core.Bool.{Bool, true, false, _&&_, _||_}
+use mathlib.Core.Bool.{Bool, true, false, _&&_, _||_, or-comm, and-comm}
 use Prim.Native.Nat.{ℕ, _+_, _≤_, _<_, zero-le}
 use native.Mathlib.Nat.{le-refl, not-suc-le-zero, zero-add}
 use native.Mathlib.Omega.{arith}
@@ -40,31 +40,14 @@ pub joins-hit : (e : Edge) (u w v : ℕ) → Joins e u w → hit (e .a) v + hit 
 joins-hit e u w v (inl p) = rw (p .0, p .1)
 joins-hit e u w v (inr p) = rw (p .0, p .1) (omega arith)
 
-pub joint-comm : (u v x y : ℕ) → joint u v x y ≡ joint u v y x
-joint-comm u v x y = go (eqb x u) (eqb y v) (eqb x v) (eqb y u)
-  where
-    go : (p q r s : Bool) → one ((p && q) || (r && s)) ≡ one ((s && r) || (q && p))
-    go true true true true = refl
-    go true true true false = refl
-    go true true false true = refl
-    go true true false false = refl
-    go true false true true = refl
-    go true false true false = refl
-    go true false false true = refl
-    go true false false false = refl
-    go false true true true = refl
-    go false true true false = refl
-    go false true false true = refl
-    go false true false false = refl
-    go false false true true = refl
-    go false false true false = refl
-    go false false false true = refl
-    go false false false false = refl
+-- what is counted in either order is counted the same from the other end
+pub other-way : (p q r s : Bool) → one ((p && q) || (r && s)) ≡ one ((s && r) || (q && p))
+other-way p q r s = ap one (or-comm (p && q) (r && s) ∙ ap₂ _||_ (and-comm r s) (and-comm p q))
 
 -- a step along an edge is counted like the edge
 pub joins-joint : (u v : ℕ) (e : Edge) (x y : ℕ) → Joins e x y → joint u v x y ≡ joint u v (e .a) (e .b)
 joins-joint u v e x y (inl p) = rw (p .0, p .1)
-joins-joint u v e x y (inr p) = rw (p .0, p .1) (joint-comm u v x y)
+joins-joint u v e x y (inr p) = rw (p .0, p .1) (other-way (eqb x u) (eqb y v) (eqb x v) (eqb y u))
 
 -- ---- lists of edges
 

@@ -1,8 +1,8 @@
 -- Steps, pieces, links and copies of a repaired drawing, counted by points.
 use mathlib.Core.Path.{_≡_, refl, sym, ap, ap₂, _∙_, subst}
 use mathlib.Core.Logic.{_⊎_, inl, inr}
-use mathlib.Core.List.{List, [], _∷_, _++_, map}
-use mathlib.Core.Bool.{Bool, true, false, _&&_, _||_, or-comm, and-comm}
+use mathlib.Core.List.{List, [], _∷_, map}
+use mathlib.Core.Bool.{Bool, true, false, _&&_, _||_, true≢false}
 use Prim.Native.Nat.{ℕ, suc, _+_, _≤_, _<_}
 use native.Mathlib.Nat.{lt-of-not-le, eq-zero-or-pos, not-suc-le-zero}
 use native.Mathlib.Decide.{decLe}
@@ -11,42 +11,29 @@ use lib.ListN.{length, length-map}
 use lib.Dec.{eqb}
 use borrow.Author.Tests.{eqb-true, eq-eqb}
 use Rattle.drawing.specs.Drawing.{Point, Settings, closing, same, Drawing}
-use Rattle.drawing.specs.Members.{All, all-imp}
-use Rattle.drawing.specs.Same.{both, same-true, same-refl}
-use Rattle.graph.specs.Chain.{Stroke, piecesOf, linksOf, strokesOf}
-use Rattle.graph.specs.Graph.{Edge, Graph, nodeOf, pointAt, buildGraph}
+use Rattle.drawing.specs.Members.{All, all-imp, all-map}
+use Rattle.drawing.specs.Same.{both}
+use Rattle.graph.specs.Chain.{Stroke, strokesOf}
+use Rattle.graph.specs.Graph.{Edge, nodeOf, pointAt, buildGraph}
 use Rattle.graph.specs.Degree.{one, hit, degree, oddNodes}
 use Rattle.graph.specs.Count.{sumOver, lineSum, joint, joining, lies, stepsBetween, strokesBetween, touches, strokesAt}
-use Rattle.graph.specs.Ways.{In, Joins, Joined, Inside, Reach, here, on}
-use Rattle.graph.specs.Sums.{sumOver-append, joins-joint, joint-comm}
-use Rattle.graph.specs.Strokes.{Between}
-use Rattle.graph.specs.Nodes.{IsNode, node-point}
+use Rattle.graph.specs.Ways.{In, Joins, Joined, Inside, Reach}
+use Rattle.graph.specs.Sums.{joins-joint, other-way}
+use Rattle.graph.specs.Connected.{joined-more, reach-more}
+use Rattle.graph.specs.Strokes.{lies-own}
+use Rattle.graph.specs.Nodes.{node-point}
 use Rattle.graph.specs.Between.{sum-none, sum-map, steps-joint, steps-hit, steps-none, steps-untouched}
-use Rattle.graph.specs.Built.{built-numbered, built-strokes, built-inside, built-joining, built-degree, built-none, built-untouched}
-use Rattle.graph.specs.Reached.{all-reached}
+use Rattle.graph.specs.Built.{built-numbered, built-strokes, built-joining, built-degree, built-none, built-untouched}
 use Rattle.repair.specs.Repair.{Repair}
 use Rattle.repair.specs.Repaired.{Repaired}
-use Rattle.walk.specs.Line.{hierholzer, orient, lineOf}
+use Rattle.walk.specs.Line.{hierholzer, orient}
 use Rattle.walk.specs.Traced.{Traced, traced}
 use Rattle.walk.specs.Oriented.{orient-sum, orient-length}
 
 -- ---- what lies between two points, either way round
 
 lies-comm : (p q a b : Point) → lies p q a b ≡ lies p q b a
-lies-comm p q a b =
-    ap one (or-comm (same a p && same b q) (same a q && same b p) ∙ ap₂ _||_ (and-comm (same a q) (same b p)) (and-comm (same a p) (same b q)))
-
--- nothing that has two different ends lies between a point and itself
-lies-self : (p a b : Point) → same a b ≡ false → lies p p a b ≡ 0
-lies-self p a b h = go (same a p) (same b p) refl refl
-  where
-    both-there : same a p ≡ true → same b p ≡ true → same a b ≡ true
-    both-there i j = subst (λ (q : Point). same a q ≡ true) (sym (same-true b p j)) i
-
-    go : (s t : Bool) → same a p ≡ s → same b p ≡ t → one ((s && t) || (s && t)) ≡ 0
-    go true true i j = let z : _≡_ {A = Bool} true false = sym (both-there i j) ∙ h in let w : _≡_ {A = ℕ} 0 1 = cc in absurd (omega arith)
-    go true false i j = refl
-    go false t i j = refl
+lies-comm p q a b = other-way (same a p) (same b q) (same a q) (same b p)
 
 -- ---- two nodes are joined where a positive number of edges joins them
 
@@ -68,7 +55,7 @@ joined-of-count : (u v : ℕ) (es : List Edge) → 0 < joining u v es → Joined
 unfolding sumOver
 joined-of-count u v [] h = absurd (omega arith)
 joined-of-count u v (e ∷ es) h = elim (eq-zero-or-pos (joint u v (e .a) (e .b))) [
-  | inl z ↦ let j = joined-of-count u v es (omega arith) in record { by = j .by; isIn = inr (j .isIn); joins = j .joins }
+  | inl z ↦ joined-more (λ x i. inr i) (joined-of-count u v es (omega arith))
   | inr k ↦ record { by = e; isIn = inl refl; joins = joint-joins u v e k }
 ]
 
@@ -122,9 +109,8 @@ module _ (d : Drawing) (r : Repair) (F : Repaired (buildGraph d) (d .settings) r
     nodes = buildGraph d .nodes
 
     -- copies keep every node within reach
-    reach-repaired : {v : ℕ} → Reach (buildGraph d .edges) 0 v → Reach (r .edges) 0 v
-    reach-repaired here = here
-    reach-repaired (on w j) = on (reach-repaired w) (F .copied .old _ _ j)
+    reach-repaired : (v : ℕ) → v < length nodes → Reach (r .edges) 0 v
+    reach-repaired v l = reach-more (F .copied .old) (reached v l)
 
     -- repair leaves none or two nodes odd
     pub left-odd : (oddNodes (length nodes) (r .edges) ≡ []) ⊎ ((u : ℕ) × (v : ℕ) × (oddNodes (length nodes) (r .edges) ≡ u ∷ v ∷ []))
@@ -134,10 +120,10 @@ module _ (d : Drawing) (r : Repair) (F : Repaired (buildGraph d) (d .settings) r
             → (oddNodes (length nodes) (r .edges) ≡ []) ⊎ ((u : ℕ) × (v : ℕ) × (oddNodes (length nodes) (r .edges) ≡ u ∷ v ∷ []))
         go true vs c o = inl (F .none-left (inl c))
         go false [] c o = inl (F .none-left (inr o))
-        go false (x ∷ vs) c o = let t = F .two-left c (λ z. let w : _≡_ {A = ℕ} 0 1 = cc in omega arith) in inr (t .0, t .1, t .3)
+        go false (x ∷ vs) c o = let t = F .two-left c (λ z. true≢false (cc)) in inr (t .0, t .1, t .3)
 
     pub trace : 0 < length nodes → Traced (length nodes) (r .edges) (nodeLine d r)
-    trace h = traced-through (d .settings) nodes (r .edges) h (F .copied .inside) (λ v l. reach-repaired (reached v l)) left-odd
+    trace h = traced-through (d .settings) nodes (r .edges) h (F .copied .inside) reach-repaired left-odd
 
     -- what holds of the line, also where there are no nodes
     record Steps (line : List ℕ) : Type 0 where
@@ -184,9 +170,8 @@ module _ (d : Drawing) (r : Repair) (F : Repaired (buildGraph d) (d .settings) r
 
     no-copies : (p q : Point) → (length nodes ≤ nodeOf nodes p) ⊎ (length nodes ≤ nodeOf nodes q) → copies d r p q ≡ 0
     no-copies p q h =
-        sum-map (λ (way : List ℕ). map (pointAt nodes) way) _ (λ (way : List ℕ). 0) (r .retraces)
-        (all-imp _ _ (λ way a. steps-none nodes (built-numbered d) p q h way a) (r .retraces) (F .copied .ways-inside))
-        ∙ sum-none (λ (way : List ℕ). 0) (r .retraces) (all-imp _ _ (λ way a. refl) (r .retraces) (F .copied .ways-inside))
+        sum-none (λ (way : List Point). stepsBetween p q way) (ways d r)
+        (all-map (λ (way : List ℕ). map (pointAt nodes) way) _ (r .retraces) (all-imp _ _ (λ way a. steps-none nodes (built-numbered d) p q h way a) (r .retraces) (F .copied .ways-inside)))
 
     -- the first sentence of demand 3
     pub steps-counted : (p q : Point) → stepsBetween p q (line d r) ≡ strokesBetween p q (strokesOf d) + copies d r p q
@@ -224,7 +209,7 @@ module _ (d : Drawing) (r : Repair) (F : Repaired (buildGraph d) (d .settings) r
     strokes-self : (p : Point) → strokesBetween p p (strokesOf d) ≡ 0
     strokes-self p =
         sum-none (λ (s : Stroke). lies p p (s .from) (s .to)) (strokesOf d)
-        (all-imp _ _ (λ s b. lies-self p (s .from) (s .to) (b .apart)) (strokesOf d) (built-strokes d))
+        (all-imp _ _ (λ s b. lies-own p (s .from) (s .to) (b .apart)) (strokesOf d) (built-strokes d))
 
     pub steps-apart : (p : Point) → stepsBetween p p (line d r) ≡ 0
     steps-apart p = elim (eq-zero-or-pos (copies d r p p)) [
@@ -251,14 +236,10 @@ module _ (d : Drawing) (r : Repair) (F : Repaired (buildGraph d) (d .settings) r
         omega (
           arith,
           built-untouched d p h,
-          sum-map (λ (way : List ℕ). map (pointAt nodes) way) (λ (way : List Point). lineSum (touches p) way) (λ (way : List ℕ). 0) (r .retraces)
-              (all-imp _ _ (λ way a. steps-untouched nodes (built-numbered d) p h way a) (r .retraces) (F .copied .ways-inside)),
-          sum-none (λ (way : List ℕ). 0) (r .retraces) (all-imp _ _ (λ way a. refl) (r .retraces) (F .copied .ways-inside)),
+          sum-none (λ (way : List Point). lineSum (touches p) way) (ways d r)
+              (all-map (λ (way : List ℕ). map (pointAt nodes) way) _ (r .retraces) (all-imp _ _ (λ way a. steps-untouched nodes (built-numbered d) p h way a) (r .retraces) (F .copied .ways-inside))),
         )
 
     -- the line has one point more than there are edges, at most
     pub line-few : length (line d r) ≤ suc (length (r .edges))
     line-few = omega (arith, orient-length (d .settings) (map (pointAt nodes) (nodeLine d r)), length-map (nodeLine d r) (pointAt nodes), line-steps .few)
-
-    pub line-within : All (λ (v : ℕ). v < length nodes) (nodeLine d r)
-    line-within = line-steps .within

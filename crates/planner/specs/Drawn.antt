@@ -26,27 +26,13 @@ module _ (file : List ℕ) where
   unfolding graphIn
   graph-is = refl
 
-  drawn-between : (p q : Point) → strokesBetween p q (strokesOf (drawingIn file)) ≡ piecesBetween p q file + linksBetween p q file
+  pub drawn-between : (p q : Point) → strokesBetween p q (strokesOf (drawingIn file)) ≡ piecesBetween p q file + linksBetween p q file
   unfolding piecesBetween linksBetween
   drawn-between p q = sumOver-append (λ (s : Stroke). lies p q (s .from) (s .to)) (piecesOf (drawingIn file)) (linksOf (drawingIn file))
 
-  drawn-at : (p : Point) → strokesAt p (strokesOf (drawingIn file)) ≡ drawnAt p file
+  pub drawn-at : (p : Point) → strokesAt p (strokesOf (drawingIn file)) ≡ drawnAt p file
   unfolding drawnAt
   drawn-at p = sumOver-append (λ (s : Stroke). touches p (s .from) (s .to)) (piecesOf (drawingIn file)) (linksOf (drawingIn file))
-
-  pub graph-joining : (u v : ℕ) → u < length (graphIn file .nodes) → v < length (graphIn file .nodes)
-      → joining u v (graphIn file .edges) ≡ piecesBetween (pointAt (graphIn file .nodes) u) (pointAt (graphIn file .nodes) v) file + linksBetween (pointAt (graphIn file .nodes) u) (pointAt (graphIn file .nodes) v) file
-  graph-joining = rw graph-is (λ u v hu hv. built-joining (drawingIn file) u v hu hv ∙ drawn-between _ _)
-
-  pub graph-degree : (v : ℕ) → v < length (graphIn file .nodes) → degree (graphIn file .edges) v ≡ drawnAt (pointAt (graphIn file .nodes) v) file
-  graph-degree = rw graph-is (λ v hv. built-degree (drawingIn file) v hv ∙ drawn-at _)
-
-  pub nothing-between : (p q : Point) → (length (graphIn file .nodes) ≤ nodeOf (graphIn file .nodes) p) ⊎ (length (graphIn file .nodes) ≤ nodeOf (graphIn file .nodes) q)
-      → piecesBetween p q file + linksBetween p q file ≡ 0
-  nothing-between p q = rw graph-is (λ h. sym (drawn-between p q) ∙ built-none (drawingIn file) p q h)
-
-  pub nothing-at : (p : Point) → length (graphIn file .nodes) ≤ nodeOf (graphIn file .nodes) p → drawnAt p file ≡ 0
-  nothing-at p = rw graph-is (λ h. sym (drawn-at p) ∙ built-untouched (drawingIn file) p h)
 
   -- ---- whatever the file, nodes are on the grid and no weight is negative
 

@@ -2,7 +2,7 @@
 use mathlib.Core.Path.{_≡_, refl, sym, ap, _∙_, subst}
 use mathlib.Core.Logic.{_⊎_, inl, inr, _↔_}
 use mathlib.Core.List.{List, [], _∷_, map}
-use mathlib.Core.Bool.{Bool, true, false}
+use mathlib.Core.Bool.{Bool, true, false, true≢false}
 use Prim.Native.Nat.{ℕ, zero, suc, _+_, _%_, _≤_, _<_}
 use native.Mathlib.Nat.{lt-of-not-le, eq-zero-or-pos}
 use native.Mathlib.Decide.{decLe}
@@ -26,7 +26,7 @@ use Rattle.repair.specs.Repaired.{Repaired}
 use Rattle.walk.specs.Line.{hierholzer, orient, endPoints}
 use Rattle.walk.specs.Traced.{Traced}
 use Rattle.walk.specs.Oriented.{orient-ends}
-use Rattle.planner.specs.Counted.{nodeLine, left-odd, trace, line, copiesTouching, left-degree, left-untouched, line-within}
+use Rattle.planner.specs.Counted.{left-odd, trace, line, copiesTouching, left-degree, left-untouched}
 
 -- ---- odd numbers
 
@@ -35,9 +35,6 @@ odd-true m h = eq-eqb (m % 2) 1 h
 
 odd-false : (m : ℕ) → m % 2 ≡ 0 → isOdd m ≡ false
 odd-false m h = ne-eqb (m % 2) 1 (λ k. omega arith)
-
-clash : {A : Type 0} (t : Bool) → t ≡ true → t ≡ false → A
-clash t h k = let z : _≡_ {A = Bool} true false = sym h ∙ k in let w : _≡_ {A = ℕ} 0 1 = cc in absurd (omega arith)
 
 -- ---- the last of a line is one of it
 
@@ -67,7 +64,7 @@ module _ (d : Drawing) (r : Repair) (F : Repaired (buildGraph d) (d .settings) r
         go [] e = e
         go (v ∷ vs) e =
             let m = oddNodes-member (length nodes) (buildGraph d .edges) v .0 (rw e (inl refl)) in
-            clash (drawnOdd (pointAt nodes v)) (odd-true (strokesAt (pointAt nodes v) (strokesOf d)) (rw (built-degree d v (m .0)) at (m .1))) (h (pointAt nodes v))
+            absurd (true≢false (sym (odd-true (strokesAt (pointAt nodes v) (strokesOf d)) (rw (built-degree d v (m .0)) at (m .1))) ∙ h (pointAt nodes v)))
 
     pub odd-none : oddNodes (length nodes) (buildGraph d .edges) ≡ [] → (p : Point) → drawnOdd p ≡ false
     odd-none h p = elim (decLe (length nodes) (nodeOf nodes p)) [
@@ -82,7 +79,7 @@ module _ (d : Drawing) (r : Repair) (F : Repaired (buildGraph d) (d .settings) r
 
     pub still-odd : (p : Point) → stillOdd p ≡ true → (v : ℕ) × (v < length nodes) × (p ≡ pointAt nodes v) × In v (oddNodes (length nodes) (r .edges))
     still-odd p h = elim (decLe (length nodes) (nodeOf nodes p)) [
-      | yes k ↦ clash (stillOdd p) h (odd-false (strokesAt p (strokesOf d) + copiesTouching d r p) (omega (arith, left-untouched d r F reached p k)))
+      | yes k ↦ absurd (true≢false (sym h ∙ odd-false (strokesAt p (strokesOf d) + copiesTouching d r p) (omega (arith, left-untouched d r F reached p k))))
       | no k ↦
           let v = nodeOf nodes p in
           let l : v < length nodes = lt-of-not-le k in
@@ -115,7 +112,7 @@ module _ (d : Drawing) (r : Repair) (F : Repaired (buildGraph d) (d .settings) r
       where
         go : (ns : List Point) → nodes ≡ ns → length ns ≡ 0 → orient (d .settings) (map (pointAt nodes) (hierholzer (d .settings) nodes (r .edges))) ≡ first ∷ rest → ⊥
         go (p ∷ ps) k h e = omega arith
-        go [] k h e = let z : orient (d .settings) (map (pointAt []) (hierholzer (d .settings) [] (r .edges))) ≡ first ∷ rest = rw k at e in let w : _≡_ {A = ℕ} 0 1 = cc in omega arith
+        go [] k h e = let z : orient (d .settings) (map (pointAt []) (hierholzer (d .settings) [] (r .edges))) ≡ first ∷ rest = rw k at e in true≢false (cc)
 
     runs-are : (a b first : Point) (rest : List Point) → line d r ≡ first ∷ rest → Runs a b (line d r) → (first ≡ a) × (lastFrom first rest ≡ b)
     runs-are a b first rest e R =
@@ -175,7 +172,7 @@ module _ (d : Drawing) (r : Repair) (F : Repaired (buildGraph d) (d .settings) r
               → (closing (d .settings) ≡ true) ⊎ ((p : Point) → drawnOdd p ≡ false)
           go true vs c o k = inl c
           go false [] c o k = inr (odd-none o)
-          go false (v ∷ vs) c o k = absurd (two-odd c (λ z. let w : _≡_ {A = ℕ} 0 1 = cc in omega arith) k)
+          go false (v ∷ vs) c o k = absurd (two-odd c (λ z. true≢false (cc)) k)
 
           back : (closing (d .settings) ≡ true) ⊎ ((p : Point) → drawnOdd p ≡ false) → lastFrom first rest ≡ first
           back (inl c) = meet (E .closed (F .none-left (inl c)))

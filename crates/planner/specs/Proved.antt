@@ -2,7 +2,7 @@
 use mathlib.Core.Path.{_≡_, refl, sym, ap, ap₂, _∙_, subst}
 use mathlib.Core.Logic.{_⊎_, inl, inr, _↔_}
 use mathlib.Core.List.{List, [], _∷_, _++_, map}
-use mathlib.Core.Bool.{Bool, true, false, not}
+use mathlib.Core.Bool.{true, false, true≢false}
 use Prim.Native.Nat.{ℕ, zero, suc, _+_, _*_, _^_, _≤_, _<_}
 use native.Mathlib.Nat.{not-suc-le-zero, le-of-suc-le-suc}
 use native.Mathlib.Omega.{arith}
@@ -13,9 +13,9 @@ use borrow.Author.Tests.{not-false, eqb-false}
 use Rattle.limits.specs.Limits.{mostOdd, mostEdges}
 use Rattle.drawing.specs.Drawing.{Point, Settings, closing, Drawing}
 use Rattle.drawing.specs.Refusal.{Condition, condition, Verdict, refused, accepted, verdict}
-use Rattle.drawing.specs.Members.{All, all-map, all-imp}
+use Rattle.drawing.specs.Members.{All, in-all, all-map}
 use Rattle.drawing.specs.OnGrid.{OnGrid, lines-on, links-on}
-use Rattle.drawing.specs.Accepted.{none, accepted-fits, counts-fit}
+use Rattle.drawing.specs.Accepted.{accepted-fits, none-holds}
 use Rattle.drawing.specs.Read.{recordsOf, drawingOf, readConditions}
 use Rattle.graph.specs.Chain.{usesOf, piecesOf, linksOf, strokesOf}
 use Rattle.graph.specs.Graph.{Edge, Graph, pointAt, firstUses, buildGraph}
@@ -37,7 +37,8 @@ use Rattle.walk.specs.Oriented.{orient-all}
 use Rattle.planner.specs.Plan.{Lent, Planned, Answer, refusal, planned, lineRecord, drawingIn, graphIn, repairIn, stoppedBy, repairOr, lineIn, planConditions, answerIn, plan}
 use Rattle.planner.specs.Words.{lineWritten, piecesBetween, linksBetween, retracesIn, copiesBetween, drawnAt, copiesAt, odd, leftOdd}
 use Rattle.planner.specs.Written.{line-back}
-use Rattle.planner.specs.Counted.{nodeLine, line, ways, copies, copiesTouching, steps-counted, copies-drawn, steps-apart, line-few, line-within}
+use Rattle.planner.specs.Drawn.{drawn-between, drawn-at, graph-on, graph-few}
+use Rattle.planner.specs.Counted.{nodeLine, line, ways, copies, copiesTouching, steps-counted, copies-drawn, steps-apart, line-few}
 use Rattle.planner.specs.LineEnds.{ends-meet, ends-odd}
 use Rattle.planner.specs.Demand3.{NoneOdd, Ends, Demand3, Statement}
 
@@ -48,9 +49,6 @@ record Accepted (file : List ℕ) (lent : Lent) (answer : Planned) : Type 0 wher
   plans : verdict (planConditions file lent) ≡ accepted
   answers : answerIn file lent ≡ answer
 
-never-planned : {A : Type 0} (n : ℕ) (a : Planned) → refusal n ≡ planned a → A
-never-planned n a e = let z : _≡_ {A = ℕ} 0 1 = cc in absurd (omega arith)
-
 accepts : (file : List ℕ) (lent : Lent) (answer : Planned) → plan file lent ≡ planned answer → Accepted file lent answer
 unfolding plan
 accepts file lent answer e = go (verdict (readConditions file)) (verdict (planConditions file lent)) refl refl e
@@ -58,8 +56,8 @@ accepts file lent answer e = go (verdict (readConditions file)) (verdict (planCo
     go : (v w : Verdict) → verdict (readConditions file) ≡ v → verdict (planConditions file lent) ≡ w
         → elim v [ refused n ↦ refusal n | accepted ↦ elim w [ refused n ↦ refusal n | accepted ↦ planned (answerIn file lent) ] ] ≡ planned answer
         → Accepted file lent answer
-    go (refused n) w x y e = never-planned n answer e
-    go accepted (refused n) x y e = never-planned n answer e
+    go (refused n) w x y e = absurd (true≢false (cc))
+    go accepted (refused n) x y e = absurd (true≢false (cc))
     go accepted accepted x y e = record { read = x; plans = y; answers = (cc) }
 
 -- every node is reached, and repair was not stopped
@@ -71,12 +69,8 @@ record Passes (file : List ℕ) : Type 0 where
 passes : (file : List ℕ) (lent : Lent) → verdict (planConditions file lent) ≡ accepted → Passes file
 unfolding planConditions
 passes file lent e =
-    let c₉ = none 9 _ _ e in
-    let c₁₀ = none 10 _ _ (c₉ .1) in
-    let c₁₁ = none 11 _ _ (c₁₀ .1) in
-    let c₁₂ = none 12 _ _ (c₁₁ .1) in
-    let c₁₃ = none 13 _ _ (c₁₂ .1) in
-    record { connected = not-false (allReached (length (graphIn file .nodes)) (graphIn file .edges)) (c₉ .0); not12 = c₁₂ .0; not13 = c₁₃ .0 }
+    let c = none-holds (planConditions file lent) e in
+    record { connected = not-false (allReached (length (graphIn file .nodes)) (graphIn file .edges)) (c .0); not12 = c .1 .1 .1 .0; not13 = c .1 .1 .1 .1 .0 }
 
 -- so there is a repair
 stops-in : (file : List ℕ) (k : ℕ) → repairIn file ≡ stopped k → (k ≡ 12) ⊎ (k ≡ 13)
@@ -100,19 +94,6 @@ reached-in file p = all-reached (length (graphIn file .nodes)) (graphIn file .ed
 
 -- ---- every point of the line is on the grid, and there are few of them, so the record is read back as the line
 
-all-at : (P : Point → Type 0) (ns : List Point) → All P ns → (v : ℕ) → v < length ns → P (pointAt ns v)
-all-at P [] a v h = absurd (not-suc-le-zero h)
-all-at P (p ∷ ns) a zero h = a .0
-all-at P (p ∷ ns) a (suc v) h = all-at P ns (a .1) v (le-of-suc-le-suc h)
-
-nodes-on-grid : (file : List ℕ) → All OnGrid (buildGraph (drawingIn file) .nodes)
-unfolding drawingIn buildGraph
-nodes-on-grid file = uses-all OnGrid [] (usesOf (drawingIn file)) tt (uses-of-all OnGrid (drawingIn file) (lines-on (recordsOf file)) (links-on (recordsOf file)))
-
-few-edges : (file : List ℕ) → verdict (readConditions file) ≡ accepted → length (buildGraph (drawingIn file) .edges) < 2 ^ 20
-unfolding drawingIn
-few-edges file e = counted-few (drawingIn file) (counts-fit (drawingIn file) (accepted-fits file e .counts))
-
 -- ---- demand 3 for a file, its repair r, and an output that begins with its line
 
 module _ (file : List ℕ) (read : verdict (readConditions file) ≡ accepted) (passed : Passes file) (r : Repair) (is : repairIn file ≡ repaired r) where
@@ -130,16 +111,17 @@ module _ (file : List ℕ) (read : verdict (readConditions file) ≡ accepted) (
   line-is = rw is
 
   on-grid : All OnGrid (line (drawingIn file) r)
+  unfolding graphIn
   on-grid =
-      let ns = buildGraph (drawingIn file) .nodes in
-      orient-all OnGrid (drawingIn file .settings) (map (pointAt ns) (nodeLine (drawingIn file) r))
-      (all-map (pointAt ns) OnGrid (nodeLine (drawingIn file) r)
-      (all-imp (λ (v : ℕ). v < length ns) (λ (v : ℕ). OnGrid (pointAt ns v)) (all-at OnGrid ns (nodes-on-grid file)) (nodeLine (drawingIn file) r) (line-within d r F near)))
+      let at = pointAt (graphIn file .nodes) in
+      let way = nodeLine (drawingIn file) r in
+      orient-all OnGrid (drawingIn file .settings) (map at way) (all-map at OnGrid way (in-all (λ (v : ℕ). OnGrid (at v)) way (λ v i. graph-on file v)))
 
   short : 16 * length (line (drawingIn file) r) < 2 ^ 32
+  unfolding graphIn
   short = elim (F .copied .most) [
     | inl m ↦ omega (arith, m, line-few d r F near)
-    | inr e ↦ omega (arith, line-few d r F near, ap length e, few-edges file read)
+    | inr e ↦ omega (arith, line-few d r F near, ap length e, graph-few file (accepted-fits file read))
   ]
 
   written : (lent : Lent) → lineWritten (answerIn file lent .output) ≡ line (drawingIn file) r
@@ -150,28 +132,20 @@ module _ (file : List ℕ) (read : verdict (readConditions file) ≡ accepted) (
   unfolding retracesIn graphIn
   ways-are = rw is
 
-  -- pieces and links together, and copies, in the words of document 01
-  drawn-between : (p q : Point) → strokesBetween p q (strokesOf (drawingIn file)) ≡ piecesBetween p q file + linksBetween p q file
-  unfolding piecesBetween linksBetween
-  drawn-between p q = sumOver-append _ (piecesOf (drawingIn file)) (linksOf (drawingIn file))
-
+  -- copies in the words of document 01
   copied-between : (p q : Point) → copies (drawingIn file) r p q ≡ copiesBetween p q file
   unfolding copiesBetween
   copied-between p q = ap (sumOver (λ (way : List Point). stepsBetween p q way)) (sym ways-are)
-
-  drawn-at : (p : Point) → strokesAt p (strokesOf (drawingIn file)) ≡ drawnAt p file
-  unfolding drawnAt
-  drawn-at p = sumOver-append _ (piecesOf (drawingIn file)) (linksOf (drawingIn file))
 
   copied-at : (p : Point) → copiesTouching (drawingIn file) r p ≡ copiesAt p file
   unfolding copiesAt
   copied-at p = ap (sumOver (λ (way : List Point). lineSum (touches p) way)) (sym ways-are)
 
   odd-is : (p : Point) → isOdd (strokesAt p (strokesOf (drawingIn file))) ≡ odd p file
-  odd-is p = ap isOdd (drawn-at p)
+  odd-is p = ap isOdd (drawn-at file p)
 
   left-odd-is : (p : Point) → isOdd (strokesAt p (strokesOf (drawingIn file)) + copiesTouching (drawingIn file) r p) ≡ leftOdd p file
-  left-odd-is p = ap₂ (λ (m n : ℕ). isOdd (m + n)) (drawn-at p) (copied-at p)
+  left-odd-is p = ap₂ (λ (m n : ℕ). isOdd (m + n)) (drawn-at file p) (copied-at p)
 
   ends : (first : Point) (rest : List Point) → line (drawingIn file) r ≡ first ∷ rest → Ends file first rest
   ends first rest e =
@@ -187,8 +161,8 @@ module _ (file : List ℕ) (read : verdict (readConditions file) ≡ accepted) (
 
   holds : (lent : Lent) → Demand3 file (answerIn file lent .output)
   holds lent = record {
-    steps = λ p q. rw (written lent) (omega (arith, steps-counted d r F near p q, drawn-between p q, copied-between p q));
-    on-drawn = λ p q h. omega (arith, copies-drawn d r F near p q (omega (arith, copied-between p q)), drawn-between p q);
+    steps = λ p q. rw (written lent) (omega (arith, steps-counted d r F near p q, drawn-between file p q, copied-between p q));
+    on-drawn = λ p q h. omega (arith, copies-drawn d r F near p q (omega (arith, copied-between p q)), drawn-between file p q);
     apart = λ p. rw (written lent) (steps-apart d r F near p);
     ends = λ first rest e. ends first rest (sym (written lent) ∙ e);
   }

@@ -4,16 +4,18 @@ use native.Mathlib.Omega.{arith}
 use mathlib.Core.Path.{_≡_, refl, sym, subst}
 use mathlib.Core.Logic.{_⊎_, inl, inr}
 use mathlib.Core.List.{List, [], _∷_, _++_}
-use mathlib.Core.Bool.{Bool, true, false}
+use mathlib.Core.Bool.{Bool, true, false, true≢false}
 use lib.ListN.{length}
 use lib.Dec.{leb}
 use borrow.Author.Tests.{leb-true}
 use Rattle.limits.specs.Limits.{mostEdges}
+use Rattle.drawing.specs.Members.{all-append}
 use Rattle.graph.specs.Graph.{Edge}
 use Rattle.graph.specs.Degree.{hit, degree}
 use Rattle.graph.specs.Count.{sumOver, lineSum, joint, joining}
 use Rattle.graph.specs.Ways.{All, Inside, Joined, Walks}
 use Rattle.graph.specs.Sums.{hit-same, sumOver-append}
+use Rattle.graph.specs.Connected.{joins-inside}
 use Rattle.graph.specs.Occurs.{count}
 use Rattle.repair.specs.Retrace.{Path, found, error, shortestPath, Laid, lay, layPath}
 use Rattle.repair.specs.Along.{shortest-along}
@@ -49,10 +51,6 @@ nothing-copied n es h = record {
   most = inr refl;
 }
 
-all-snoc : {A : Type 0} (P : A → Type 0) (xs : List A) (y : A) → All P xs → P y → All P (xs ++ (y ∷ []))
-all-snoc P [] y h p = (p, tt)
-all-snoc P (x ∷ xs) y h p = (h .0, all-snoc P xs y (h .1) p)
-
 sum-snoc : {A : Type 0} (g : A → ℕ) (xs : List A) (y : A) → sumOver g (xs ++ (y ∷ [])) ≡ sumOver g xs + g y
 unfolding sumOver
 sum-snoc g xs y = omega (arith, sumOver-append g xs (y ∷ []))
@@ -62,9 +60,7 @@ walk-inside : (n : ℕ) (es : List Edge) (u : ℕ) (vs : List ℕ) (t : ℕ) →
 walk-inside n es u [] t h l w = (l, tt)
 walk-inside n es u (v ∷ vs) t h l w =
     let j = w .0 in
-    let i = h (j .by) (j .isIn) in
-    let k : v < n = elim (j .joins) [ inl p ↦ rw (p .1) at (i .1) | inr p ↦ rw (p .0) at (i .0) ] in
-    (l, walk-inside n es v vs t h k (w .1))
+    (l, walk-inside n es v vs t h (joins-inside n es h (j .by) u v (j .isIn) (j .joins)) (w .1))
 
 one-more : (n : ℕ) (es : List Edge) (ways : List (List ℕ)) (u : ℕ) (vs : List ℕ) (t : ℕ) (l : Laid) → u < n → Walks (l .edges) u vs t
     → length (lay u vs l .edges) ≤ mostEdges → WithCopies n es (l .edges) ways → WithCopies n es (lay u vs l .edges) (ways ++ ((u ∷ vs) ∷ []))
@@ -74,7 +70,7 @@ one-more n es ways u vs t l below w fits c = record {
   on-drawn = λ x y j. c .on-drawn x y (lay-drawn u vs l t w x y j);
   old = λ x y j. lay-old u vs l x y (c .old x y j);
   inside = lay-inside u vs l t w n (c .inside);
-  ways-inside = all-snoc (All (λ (v : ℕ). v < n)) ways (u ∷ vs) (c .ways-inside) (walk-inside n (l .edges) u vs t (c .inside) below w);
+  ways-inside = all-append (All (λ (v : ℕ). v < n)) ways ((u ∷ vs) ∷ []) (c .ways-inside) (walk-inside n (l .edges) u vs t (c .inside) below w, tt);
   most = inl fits;
 }
 
@@ -105,9 +101,6 @@ retraced n es s t path r below is fits c =
     walked : (rest : List ℕ) → Walks (r .edges) s rest t → length (after (s ∷ rest) r .edges) ≤ mostEdges → Applied n es (pair s t ∷ []) r (after (s ∷ rest) r)
     walked rest w fits = record { copied = one-more n es (r .retraces) s rest t laid below w fits c; flips = λ v. omega (arith, lay-parity s rest laid t w v) }
 
-pub never : {A : Type 0} (k : ℕ) (r : Repair) → stopped k ≡ repaired r → A
-never k r e = let z : _≡_ {A = ℕ} 0 1 = cc in absurd (omega arith)
-
 pub same-repair : (r r' : Repair) → repaired r ≡ repaired r' → r ≡ r'
 same-repair r r' e = cc
 
@@ -124,7 +117,7 @@ applies n p ps r r' e = go (shortestPath n (r .edges) (p .from) (p .to)) refl e
   where
     fit : (path : List ℕ) → shortestPath n (r .edges) (p .from) (p .to) ≡ found path → (t : Bool) → leb (length (after path r .edges)) mostEdges ≡ t
         → elim t [ false ↦ stopped 13 | true ↦ applyMatching n ps (after path r) ] ≡ repaired r' → Applies n p ps r r'
-    fit path f false t e = never 13 r' e
+    fit path f false t e = absurd (true≢false (cc))
     fit path f true t e = record { path = path; isPath = f; fits = leb-true (length (after path r .edges)) mostEdges t; rest = e }
 
     go : (x : Path) → shortestPath n (r .edges) (p .from) (p .to) ≡ x
@@ -132,7 +125,7 @@ applies n p ps r r' e = go (shortestPath n (r .edges) (p .from) (p .to)) refl e
           | error ↦ stopped 12
           | found path ↦ elim (leb (length (after path r .edges)) mostEdges) [ false ↦ stopped 13 | true ↦ applyMatching n ps (after path r) ]
         ] ≡ repaired r' → Applies n p ps r r'
-    go error f e = never 12 r' e
+    go error f e = absurd (true≢false (cc))
     go (found path) f e = fit path f (leb (length (after path r .edges)) mostEdges) refl e
 
 pub applied : (n : ℕ) (es : List Edge) (ps : List Pair) (r r' : Repair) → applyMatching n ps r ≡ repaired r' → ((v : ℕ) → 0 < count v (ends ps) → v < n)

@@ -3,8 +3,8 @@ use mathlib.Core.Path.{_≡_, refl, sym, ap, _∙_}
 use mathlib.Core.Logic.{_⊎_, inl, inr}
 use mathlib.Core.List.{List, [], _∷_, _++_}
 use mathlib.Core.Bool.{Bool, true, false}
-use Prim.Native.Nat.{ℕ, suc, _+_, _%_, _<_, suc-le-suc}
-use native.Mathlib.Nat.{add-zero, zero-lt-suc}
+use Prim.Native.Nat.{ℕ, suc, _+_, _%_}
+use native.Mathlib.Nat.{add-zero}
 use native.Mathlib.Omega.{arith}
 use lib.ListN.{length, length-append}
 use lib.Dec.{eqb}
@@ -12,13 +12,14 @@ use lib.Ieee.{binary64, add}
 use borrow.Author.Tests.{eqb-true, eqb-false}
 use Rattle.sums.specs.Key.{Nonneg}
 use Rattle.sums.specs.Sum.{add-nonneg}
-use Rattle.drawing.specs.Members.{in-left}
+use Rattle.drawing.specs.Members.{in-left, in-append}
 use Rattle.graph.specs.Graph.{Edge, edge, Arc, edgesAt}
 use Rattle.graph.specs.Degree.{hit, degree}
 use Rattle.graph.specs.Count.{sumOver, lineSum, joint, joining}
 use Rattle.graph.specs.Ways.{In, Joins, Joined, Inside, Walks}
 use Rattle.graph.specs.Sums.{sumOver-append, degree-sum}
-use Rattle.graph.specs.EdgesAt.{edgeAt, edgesAt-all, edgesAt-arc, arc-joins}
+use Rattle.graph.specs.Connected.{joined-more}
+use Rattle.graph.specs.EdgesAt.{edgeAt, number-of, edgesAt-all, edgesAt-arc, arc-joins}
 use Rattle.repair.specs.Retrace.{weightTo, Laid, lay}
 use Rattle.repair.specs.Cost.{Weights}
 
@@ -70,7 +71,7 @@ lay-keeps u [] l e i = i
 lay-keeps u (v ∷ vs) l e i = lay-keeps v vs (laid u v l) e (in-left e (l .edges) (copy u v (l .edges) ∷ []) i)
 
 pub lay-old : (u : ℕ) (vs : List ℕ) (l : Laid) (x y : ℕ) → Joined (l .edges) x y → Joined (lay u vs l .edges) x y
-lay-old u vs l x y k = record { by = k .by; isIn = lay-keeps u vs l (k .by) (k .isIn); joins = k .joins }
+lay-old u vs l x y k = joined-more (lay-keeps u vs l) k
 
 -- ---- a copy is one of an edge that was there
 
@@ -94,10 +95,6 @@ other-end e u v w (inl p) (inr q) = sym (p .1) ∙ q .1 ∙ sym (p .0) ∙ q .0
 other-end e u v w (inr p) (inl q) = sym (p .0) ∙ q .0 ∙ sym (p .1) ∙ q .1
 other-end e u v w (inr p) (inr q) = sym (p .0) ∙ q .0
 
-numbered : (es : List Edge) (e : Edge) → In e es → (j : ℕ) × (j < length es) × (edgeAt es j ≡ e)
-numbered (f ∷ es) e (inl h) = (0, zero-lt-suc (length es), sym h)
-numbered (f ∷ es) e (inr i) = let r = numbered es e i in (suc (r .0), suc-le-suc (r .1), r .2)
-
 -- the weight taken is that of an arc to v, where there is one
 weightTo-is : (v : ℕ) (rs : List Arc) (q : Arc) → In q rs → q .to ≡ v → (r : Arc) × In r rs × (r .to ≡ v) × (weightTo v rs ≡ r .weight)
 unfolding weightTo
@@ -112,10 +109,10 @@ weightTo-is v (r ∷ rs) q i h = go (eqb (r .to) v) refl i (λ k. weightTo-is v 
 -- among a node's edges is one to each node that is joined with it
 arc-to : (es : List Edge) (u v : ℕ) → Joined es u v → (r : Arc) × In r (edgesAt es u) × (r .to ≡ v)
 arc-to es u v k =
-    let n = numbered es (k .by) (k .isIn) in
-    let j : Joins (edgeAt es (n .0)) u v = rw (n .2) (k .joins) in
-    let a = edgesAt-all es (n .0) u v (n .1) j in
-    (a .arc, a .isIn, other-end (edgeAt es (n .0)) u (a .arc .to) v (rw (a .number-is) at (edgesAt-arc es u (a .arc) (a .isIn) .joins)) j)
+    let n = number-of es (k .by) (k .isIn) in
+    let j : Joins (edgeAt es (n .number)) u v = rw (n .is) (k .joins) in
+    let a = edgesAt-all es (n .number) u v (n .isEdge) j in
+    (a .arc, a .isIn, other-end (edgeAt es (n .number)) u (a .arc .to) v (rw (a .number-is) at (edgesAt-arc es u (a .arc) (a .isIn) .joins)) j)
 
 copy-of : (es : List Edge) (u v : ℕ) → Joined es u v → Copied es (copy u v es)
 copy-of es u v k =
@@ -132,19 +129,16 @@ copied-trans {e = e} h c =
 own : {es : List Edge} {e : Edge} → In e es → Copied es e
 own {e = e} i = record { of = e; isIn = i; joins = inl (refl, refl); weight-is = refl }
 
-in-snoc : {A : Type 0} (x y : A) (xs : List A) → In x (xs ++ (y ∷ [])) → In x xs ⊎ (x ≡ y)
-in-snoc x y [] (inl h) = inr h
-in-snoc x y (z ∷ xs) (inl h) = inl (inl h)
-in-snoc x y (z ∷ xs) (inr i) = elim (in-snoc x y xs i) [ inl k ↦ inl (inr k) | inr h ↦ inr h ]
-
 laid-copied : (u v : ℕ) (l : Laid) → Joined (l .edges) u v → (e : Edge) → In e (laid u v l .edges) → Copied (l .edges) e
-laid-copied u v l k e i = elim (in-snoc e (copy u v (l .edges)) (l .edges) i) [ inl j ↦ own j | inr h ↦ rw h (copy-of (l .edges) u v k) ]
+laid-copied u v l k e i = elim (in-append e (l .edges) (copy u v (l .edges) ∷ []) i) [
+  | inl j ↦ own j
+  | inr j ↦ elim j [ inl h ↦ rw h (copy-of (l .edges) u v k) | inr h ↦ absurd h ]
+]
 
 laid-walks : (u v : ℕ) (l : Laid) (x : ℕ) (vs : List ℕ) (t : ℕ) → Walks (l .edges) x vs t → Walks (laid u v l .edges) x vs t
 laid-walks u v l x [] t w = w
 laid-walks u v l x (y ∷ vs) t w =
-    let k = w .0 in
-    (record { by = k .by; isIn = in-left (k .by) (l .edges) (copy u v (l .edges) ∷ []) (k .isIn); joins = k .joins }, laid-walks u v l y vs t (w .1))
+    (joined-more (λ e i. in-left e (l .edges) (copy u v (l .edges) ∷ []) i) (w .0), laid-walks u v l y vs t (w .1))
 
 -- every edge after a retrace was there, or is a copy of one that was
 pub lay-copied : (u : ℕ) (vs : List ℕ) (l : Laid) (t : ℕ) → Walks (l .edges) u vs t → (e : Edge) → In e (lay u vs l .edges) → Copied (l .edges) e

@@ -13,12 +13,14 @@ use lib.Seq.{getD-set-same, set-out}
 use lib.Ieee.{Float, binary64, add}
 use Rattle.sums.specs.Key.{Nonneg, key, key-top}
 use Rattle.sums.specs.Sum.{add-above, add-mono, zero-nonneg, zero-key, inf-nonneg}
+use Rattle.drawing.specs.Members.{set-cases, getD-same}
 use Rattle.graph.specs.Graph.{Edge}
 use Rattle.graph.specs.Degree.{one}
 use Rattle.graph.specs.Count.{sumOver}
 use Rattle.graph.specs.Ways.{In, Joins, Inside}
+use Rattle.graph.specs.Connected.{joins-inside}
 use Rattle.repair.specs.Distance.{infinity, zeroLength, distanceAt, Nearest, pick, relaxAll, dijkstra, distances}
-use Rattle.repair.specs.Relax.{keyAt, AllNonneg, set-cases, Improved, no-higher, still-nonneg, Next, next-nonneg, relaxAll-is}
+use Rattle.repair.specs.Relax.{keyAt, AllNonneg, Improved, no-higher, still-nonneg, Next, next-nonneg, relaxAll-is}
 use Rattle.repair.specs.Nearest.{Done, Open, Picked, pick-is}
 pub use Rattle.repair.specs.Cost.{Weights, Way, here, step, Least, way-nonneg, least-nonneg, least-unique}
 
@@ -81,10 +83,6 @@ noNode ds = record { node = length ds; distance = infinity }
 
 beyond : (ds : List Float) (v : ℕ) → length ds ≤ v → distanceAt ds v ≡ infinity
 beyond ds v h = List·getD-eq-default ds infinity h
-
-joins-inside : (n : ℕ) (es : List Edge) → Inside n es → (e : Edge) (u v : ℕ) → In e es → Joins e u v → v < n
-joins-inside n es inside e u v i (inl j) = rw (← j .1) (inside e i .1)
-joins-inside n es inside e u v i (inr j) = rw (← j .0) (inside e i .0)
 
 -- ---- the rounds
 module _ (n : ℕ) (es : List Edge) (weights : Weights es) (inside : Inside n es) (s : ℕ) where
@@ -225,17 +223,12 @@ module _ (n : ℕ) (es : List Edge) (weights : Weights es) (inside : Inside n es
         nonneg = λ v. elim (first v) [ inl p ↦ rw (p .1) (zero-nonneg binary64) | inr q ↦ rw q (inf-nonneg binary64) ];
         source = getD-set-same (replicate n infinity) s zeroLength infinity (rw length-replicate h);
         way = λ v. elim (first v) [ inl p ↦ inr (rw (p .1, p .0) here) | inr q ↦ inl q ];
-        order = λ u v p. absurd (false≢true (sym (same n u false) ∙ p));
-        closed = λ u p. absurd (false≢true (sym (same n u false) ∙ p));
+        order = λ u v p. absurd (false≢true (sym (getD-same n u false) ∙ p));
+        closed = λ u p. absurd (false≢true (sym (getD-same n u false) ∙ p));
       }
     where
-      same : {A : Type 0} (m v : ℕ) (a : A) → getD (replicate m a) v a ≡ a
-      same zero v a = refl
-      same (suc m) zero a = refl
-      same (suc m) (suc v) a = same m v a
-
       first : (v : ℕ) → ((v ≡ s) × (distanceAt (set (replicate n infinity) s zeroLength) v ≡ zeroLength)) ⊎ (distanceAt (set (replicate n infinity) s zeroLength) v ≡ infinity)
-      first v = elim (set-cases (replicate n infinity) s zeroLength infinity v) [ inl p ↦ inl p | inr q ↦ inr (q ∙ same n v infinity) ]
+      first v = elim (set-cases (replicate n infinity) s zeroLength infinity v) [ inl p ↦ inl p | inr q ↦ inr (q ∙ getD-same n v infinity) ]
 
 -- The distances from s are the least costs, whatever the order of the edges. A node with no way to it, and any v that is no node, is at infinity.
 pub least-distance : (n : ℕ) (es : List Edge) → Weights es → Inside n es → (s : ℕ) → s < n → (v : ℕ) → Least es s v (distanceAt (distances n es s) v)

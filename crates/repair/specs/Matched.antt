@@ -9,6 +9,7 @@ use lib.ListN.{length}
 use lib.Dec.{eqb}
 use lib.Ieee.{Float, lt}
 use borrow.Author.Tests.{eqb-true}
+use Rattle.drawing.specs.Members.{either}
 use Rattle.graph.specs.Degree.{one, hit}
 use Rattle.graph.specs.Sums.{hit-same}
 use Rattle.graph.specs.Occurs.{count}
@@ -77,11 +78,7 @@ chosen-is P (chosen m) h = h
 cheaper-is : (P : Matching → Type 0) (c : Choice) (m : Matching) → Chosen P c → P m → Chosen P (cheaper c m)
 unfolding cheaper
 cheaper-is P none m h p = p
-cheaper-is P (chosen b) m h p = go (lt (m .cost) (b .cost))
-  where
-    go : (t : Bool) → Chosen P (elim t [ true ↦ chosen m | false ↦ chosen b ])
-    go true = p
-    go false = h
+cheaper-is P (chosen b) m h p = either (Chosen P) (chosen m) (chosen b) p h (lt (m .cost) (b .cost))
 
 -- ---- all nodes of an even list
 

@@ -2,15 +2,16 @@
 use Prim.Native.Nat.{ℕ, zero, suc, _+_, _-_, _%_, _≤_, _<_}
 use native.Mathlib.Omega.{arith}
 use native.Mathlib.Nat.{le-of-suc-le-suc}
-use native.Mathlib.Decide.{ℕ-discrete}
 use mathlib.Core.Path.{_≡_, refl, ap, _∙_}
+use mathlib.Core.Logic.{inl, inr}
 use mathlib.Core.List.{List, [], _∷_, map}
 use mathlib.Core.Bool.{Bool, true, false}
 use lib.ListN.{length, getD, take, set, length-take, length-set, length-map}
-use lib.Seq.{getD-set-same, getD-set-other, getD-take}
+use lib.Seq.{getD-set-other, getD-take}
 use lib.Dec.{ltb}
 use borrow.Author.Tests.{ltb-true, ltb-false}
 use Rattle.drawing.specs.Drawing.{Point}
+use Rattle.drawing.specs.Members.{either, set-cases}
 use Rattle.graph.specs.Chain.{squared}
 use Rattle.graph.specs.Degree.{hit}
 use Rattle.graph.specs.Occurs.{count}
@@ -49,12 +50,8 @@ count-take v (u ∷ w ∷ us) zero h = absurd (omega arith)
 count-take v (u ∷ us) (suc n) h = omega (arith, count-take v us n (omega arith))
 
 -- the last stays the last where it takes another place, its own too
-getD-set-last : (vs : List ℕ) (i n : ℕ) → n < length vs → getD (set vs i (getD vs n 0)) n 0 ≡ getD vs n 0
-getD-set-last vs i n h = go (ℕ-discrete n i)
-  where
-    go : Dec (n ≡ i) → getD (set vs i (getD vs n 0)) n 0 ≡ getD vs n 0
-    go (yes e) = rw (← e) (getD-set-same vs n (getD vs n 0) 0 h)
-    go (no e) = getD-set-other vs i n (getD vs n 0) 0 e
+getD-set-last : (vs : List ℕ) (i n : ℕ) → getD (set vs i (getD vs n 0)) n 0 ≡ getD vs n 0
+getD-set-last vs i n = elim (set-cases vs i (getD vs n 0) 0 n) [ inl p ↦ p .1 | inr e ↦ e ]
 
 -- the element at i goes
 pub swap-count : (v : ℕ) (vs : List ℕ) (i : ℕ) → i < length vs → hit (getD vs i 0) v + count v (swapRemove vs i) ≡ count v vs
@@ -66,7 +63,7 @@ swap-count v vs i h =
       arith,
       count-set v vs i last h,
       count-take v (set vs i last) n (length-set vs i last ∙ omega arith),
-      ap (λ (x : ℕ). hit x v) (getD-set-last vs i n (omega arith)),
+      ap (λ (x : ℕ). hit x v) (getD-set-last vs i n),
     )
 
 -- those in front of it stay
@@ -84,11 +81,7 @@ Places n (between i j d) = (i < j) × (j < n)
 closer-places : (n : ℕ) (best : Closest) (i j d : ℕ) → i < j → j < n → Places n best → Places n (closer best i j d)
 unfolding closer
 closer-places n nothing i j d h k p = absurd p
-closer-places n (between i' j' d') i j d h k p = go (ltb d d')
-  where
-    go : (t : Bool) → Places n (elim t [ true ↦ between i j d | false ↦ between i' j' d' ])
-    go true = (h, k)
-    go false = p
+closer-places n (between i' j' d') i j d h k p = either (Places n) (between i j d) (between i' j' d') (h, k) p (ltb d d')
 
 to-places : (n : ℕ) (p : Point) (i : ℕ) (qs : List Point) (j : ℕ) (best : Closest) → i < j → j + length qs ≤ n → Places n best → Places n (closestTo p i qs j best)
 unfolding closestTo

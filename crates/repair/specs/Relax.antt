@@ -13,6 +13,7 @@ use lib.Ieee.{Float, binary64, add, lt}
 use borrow.Author.Tests.{ltb-true, ltb-false, eqb-true, eqb-false}
 use Rattle.sums.specs.Key.{Nonneg, key, lt-key}
 use Rattle.sums.specs.Sum.{add-nonneg}
+use Rattle.drawing.specs.Members.{set-cases}
 use Rattle.graph.specs.Graph.{Edge}
 use Rattle.graph.specs.Ways.{In, Joins}
 use Rattle.repair.specs.Distance.{infinity, distanceAt, improve, relax, relaxAll}
@@ -29,14 +30,6 @@ lt-true x y p q h = ltb-true (key binary64 x) (key binary64 y) (sym (lt-key bina
 
 pub lt-false : (x y : Float) → Nonneg binary64 x → Nonneg binary64 y → lt x y ≡ false → key binary64 y ≤ key binary64 x
 lt-false x y p q h = ltb-false (key binary64 x) (key binary64 y) (sym (lt-key binary64 x y p q) ∙ h)
-
--- an element read after `set` is the one set, or as before
-pub set-cases {ℓ} : {A : Type ℓ} (l : List A) (v : ℕ) (a d : A) (x : ℕ) → ((x ≡ v) × (getD (set l v a) x d ≡ a)) ⊎ (getD (set l v a) x d ≡ getD l x d)
-set-cases [] v a d x = inr refl
-set-cases (y ∷ l) zero a d zero = inl (refl, refl)
-set-cases (y ∷ l) zero a d (suc x) = inr refl
-set-cases (y ∷ l) (suc v) a d zero = inr refl
-set-cases (y ∷ l) (suc v) a d (suc x) = elim (set-cases l v a d x) [ inl p ↦ inl (ap suc (p .0), p .1) | inr q ↦ inr q ]
 
 -- of the costs that are offered for nodes, each that is lower is taken, and nothing else changes
 pub record Improved (Offer : ℕ → Float → Type 0) (old new : List Float) : Type 0 where

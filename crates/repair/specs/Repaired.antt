@@ -2,15 +2,16 @@
 use Prim.Native.Nat.{ℕ, _+_, _%_, _≤_, _<_}
 use native.Mathlib.Nat.{lt-of-not-le}
 use native.Mathlib.Omega.{arith}
-use mathlib.Core.Path.{_≡_, refl, ap, _∙_, subst}
+use mathlib.Core.Path.{_≡_, refl, sym, ap, _∙_, subst}
 use mathlib.Core.Logic.{_⊎_, inl, inr}
 use mathlib.Core.List.{List, [], _∷_}
-use mathlib.Core.Bool.{Bool, true, false}
+use mathlib.Core.Bool.{Bool, true, false, true≢false}
 use lib.ListN.{length, getD}
 use lib.Dec.{eqb, leb}
 use lib.Ieee.{binary64, add}
 use borrow.Author.Tests.{leb-true, leb-false, eqb-true, eqb-false}
 use Rattle.drawing.specs.Drawing.{Settings, optimal, closing}
+use Rattle.drawing.specs.Members.{either}
 use Rattle.graph.specs.Graph.{Edge, Graph}
 use Rattle.graph.specs.Degree.{hit, degree, oddNodes}
 use Rattle.graph.specs.Ways.{Inside}
@@ -22,7 +23,7 @@ use Rattle.repair.specs.Pairing.{Pair, pair, greedyPairs, optimalPairs}
 use Rattle.repair.specs.Repair.{Repair, Repairing, stopped, repaired, applyMatching, rows, distanceIn, pairsOf, close, closeIf, drawn, fixParity}
 use Rattle.repair.specs.Pairs.{ends, AllButTwo, greedy-pairs}
 use Rattle.repair.specs.Matched.{optimal-pairs}
-use Rattle.repair.specs.Applied.{WithCopies, nothing-copied, applied, never, same-repair}
+use Rattle.repair.specs.Applied.{WithCopies, nothing-copied, applied, same-repair}
 
 -- What holds of the repair r of the graph g.
 pub record Repaired (g : Graph) (s : Settings) (r : Repair) : Type 0 where
@@ -38,11 +39,9 @@ pub record Repaired (g : Graph) (s : Settings) (r : Repair) : Type 0 where
 -- of more than two odd nodes
 pairs-of : (g : Graph) (s : Settings) (vs : List ℕ) → 2 < length vs → length vs % 2 ≡ 0 → AllButTwo vs (pairsOf g s vs)
 unfolding pairsOf
-pairs-of g s vs h e = go (optimal s)
-  where
-    go : (t : Bool) → AllButTwo vs (elim t [ true ↦ optimalPairs (distanceIn (rows (length (g .nodes)) (g .edges) vs)) vs | false ↦ greedyPairs (length vs) (g .nodes) vs ])
-    go true = optimal-pairs (distanceIn (rows (length (g .nodes)) (g .edges) vs)) vs (omega arith) e
-    go false = greedy-pairs (length vs) (g .nodes) vs (omega arith) (omega arith) e
+pairs-of g s vs h e =
+    either (AllButTwo vs) _ _ (optimal-pairs (distanceIn (rows (length (g .nodes)) (g .edges) vs)) vs (omega arith) e)
+    (greedy-pairs (length vs) (g .nodes) vs (omega arith) (omega arith) e) (optimal s)
 
 -- the one pair of two odd nodes
 pair-of : (vs : List ℕ) → length vs ≡ 2 → (v : ℕ) → count v (ends (pair (getD vs 0 0) (getD vs 1 0) ∷ [])) ≡ count v vs
@@ -71,9 +70,7 @@ module _ (n : ℕ) (es fs : List Edge) (ps : List Pair) (flips : (v : ℕ) → (
   none-remain : ((v : ℕ) → count v (ends ps) ≡ count v (oddNodes n es)) → oddNodes n fs ≡ []
   none-remain a =
       empty (oddNodes n fs)
-      (length-odd fs n 0
-      ∙ sum-same (λ (v : ℕ). degree fs v % 2) (λ (v : ℕ). 0) n 0 (λ v l h. omega (arith, flips v, a v, count-odd n es v (omega arith)))
-      ∙ sum-none n 0)
+      (length-odd fs n 0 ∙ sum-none (λ (v : ℕ). degree fs v % 2) n 0 (λ v l h. omega (arith, flips v, a v, count-odd n es v (omega arith))))
     where
       empty : (us : List ℕ) → length us ≡ 0 → us ≡ []
       empty [] e = refl
@@ -116,16 +113,13 @@ closed n es r c m e = go (eqb (length odd) 2) refl (applyMatching n last start) 
         ] ≡ repaired c
         → Closed n es c
     go false t x a e = subst (Closed n es) (same-repair r c e) (record { copied = m .copied; none-odd = none (eqb-false (length odd) 2 t) })
-    go true t (stopped i) a e = never i c e
+    go true t (stopped i) a e = absurd (true≢false (cc))
     go true t (repaired d) a e =
         let two = pair-of odd (eqb-true (length odd) 2 t) in
         let b = applied n es last start d a (λ v h. odd-below n (r .edges) v (omega (arith, two v))) (m .copied) in
         subst (Closed n es) (same-repair _ c e) (record { copied = b .copied; none-odd = none-remain n (r .edges) (d .edges) last (b .flips) two })
 
 -- ---- the whole repair
-
-differ : {b : Bool} → b ≡ true → b ≡ false → ⊥
-differ p q = let z : _≡_ {A = ℕ} 0 1 = cc in omega arith
 
 module _ (g : Graph) (s : Settings) where
   abbrev nodeCount : ℕ
@@ -135,7 +129,7 @@ module _ (g : Graph) (s : Settings) where
   not-closed : closing s ≡ false → (r : Repair) → PairsLaid nodeCount (g .edges) r → Repaired g s r
   not-closed f r m = record {
     copied = m .copied;
-    none-left = λ h. elim (m .left) [ inl p ↦ p .1 | inr p ↦ absurd (elim h [ inl t ↦ differ t f | inr q ↦ p .0 q ]) ];
+    none-left = λ h. elim (m .left) [ inl p ↦ p .1 | inr p ↦ absurd (elim h [ inl t ↦ true≢false (sym t ∙ f) | inr q ↦ p .0 q ]) ];
     two-left = λ _ some. elim (m .left) [ inl p ↦ absurd (some (p .0)) | inr p ↦ two-odd nodeCount (r .edges) (p .1) ];
   }
 
@@ -144,11 +138,11 @@ module _ (g : Graph) (s : Settings) where
   ended x r h e = go (closing s) refl x h e
     where
       go : (b : Bool) → closing s ≡ b → (x : Repairing) → ((d : Repair) → x ≡ repaired d → PairsLaid nodeCount (g .edges) d) → closeIf b nodeCount x ≡ repaired r → Repaired g s r
-      go b q (stopped i) h e = never i r e
+      go b q (stopped i) h e = absurd (true≢false (cc))
       go false q (repaired d) h e = subst (Repaired g s) (same-repair d r e) (not-closed q d (h d refl))
       go true q (repaired d) h e =
           let c = closed nodeCount (g .edges) d r (h d refl) e in
-          record { copied = c .copied; none-left = λ _. c .none-odd; two-left = λ f _. absurd (differ q f) }
+          record { copied = c .copied; none-left = λ _. c .none-odd; two-left = λ f _. absurd (true≢false (sym q ∙ f)) }
 
   module _ (inside : Inside nodeCount (g .edges)) where
     abbrev odd : List ℕ

@@ -8,6 +8,7 @@ use native.Mathlib.Nat.{zero-add, not-suc-le-zero}
 use native.Mathlib.Decide.{ℕ-discrete}
 use native.Mathlib.Omega.{arith}
 use lib.ListN.{length, replicate, getD-replicate}
+use Rattle.drawing.specs.Members.{all-in, all-map}
 use Rattle.graph.specs.Graph.{Edge}
 use Rattle.graph.specs.Degree.{hit, degree}
 use Rattle.graph.specs.Count.{sumOver, stepSum, lineSum, lastFrom, joint, joining}
@@ -45,9 +46,7 @@ allSum-ge g es j l =
 
 module _ (es : List Edge) (s : ℕ) (o : List Entry) (w : Walked es s o) where
   done-at : (ts : List Entry) (v : ℕ) → Done es (w .used) ts → In v (nodesOf ts) → freeSum (atNode v) 0 es (w .used) ≡ 0
-  done-at [] v d i = absurd i
-  done-at (t ∷ ts) v d (inl e) = rw e (d .0)
-  done-at (t ∷ ts) v d (inr i) = done-at ts v (d .1) i
+  done-at ts v d i = all-in (λ (u : ℕ). freeSum (atNode u) 0 es (w .used) ≡ 0) (nodesOf ts) (all-map (λ (t : Entry). t .node) _ ts d) v i
 
   -- an edge at a node that has no free edge is used
   used-at : (j u v : ℕ) → j < length es → Joins (edgeAt es j) u v → freeSum (atNode u) 0 es (w .used) ≡ 0 → isFree (w .used) j → ⊥

@@ -9,12 +9,14 @@ use native.Mathlib.Omega.{arith}
 use lib.ListN.{length, drop, length-append}
 use lib.Seq.{getD-append-seam}
 use borrow.Author.Tests.{eqb-true}
+use Rattle.drawing.specs.Members.{all-append, all-front, all-back}
 use Rattle.graph.specs.Graph.{Edge}
 use Rattle.graph.specs.Degree.{one}
 use Rattle.graph.specs.Count.{sumOver, stepSum, lineSum, lastFrom, joint, joining}
 use Rattle.graph.specs.Ways.{Inside, All, Joins}
 use Rattle.graph.specs.Sums.{hit-same, joins-joint, sumOver-append}
-use Rattle.graph.specs.Lines.{stepSum-append, lastFrom-append, all-append, all-front, all-back}
+use Rattle.graph.specs.Connected.{joins-inside}
+use Rattle.graph.specs.Lines.{stepSum-append, lastFrom-append}
 use Rattle.graph.specs.EdgesAt.{edgeAt, edgeAt-in}
 use Rattle.walk.specs.Walk.{By, start, Entry}
 use Rattle.walk.specs.Line.{isBy, cutAt}
@@ -95,11 +97,7 @@ pub trail-within : (n : ℕ) (es : List Edge) → Inside n es → (s : ℕ) (t :
 trail-within n es h s t [] q = tt
 trail-within n es h s t (x ∷ ts) q =
     let e = edgeAt es (q .0 .number) in
-    (end e (q .0 .joins) (h e (edgeAt-in es (q .0 .number) (q .0 .isEdge))), trail-within n es h s x ts (q .1))
-  where
-    end : (e : Edge) → Joins e (t .node) (x .node) → (e .a < n) × (e .b < n) → x .node < n
-    end e (inl p) k = rw (← p .1) (k .1)
-    end e (inr p) k = rw (← p .0) (k .0)
+    (joins-inside n es h e (t .node) (x .node) (edgeAt-in es (q .0 .number) (q .0 .isEdge)) (q .0 .joins), trail-within n es h s x ts (q .1))
 
 -- ---- the cut of a circuit that goes along x, the last edge
 

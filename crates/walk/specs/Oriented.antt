@@ -2,38 +2,27 @@
 use mathlib.Core.Path.{_≡_, refl}
 use mathlib.Core.Logic.{_⊎_, inl, inr}
 use mathlib.Core.List.{List, _∷_, reverse}
-use mathlib.Core.Bool.{Bool, true, false}
+use mathlib.Core.Bool.{true, false}
 use Prim.Native.Nat.{ℕ}
 use lib.ListN.{length, length-reverse}
 use Rattle.center.specs.Center.{better}
 use Rattle.drawing.specs.Drawing.{Point, Settings, inside}
+use Rattle.drawing.specs.Members.{All, either}
 use Rattle.graph.specs.Count.{lineSum, lastFrom}
-use Rattle.graph.specs.Ways.{All}
 use Rattle.graph.specs.Lines.{lineSum-reverse, Runs, runs-reverse, all-reverse}
 use Rattle.walk.specs.Line.{distance, EndPoints, ends, empty, endPoints, orient}
 
--- the line as it is, or reversed
-pub orient-cases : (s : Settings) (line : List Point) → (orient s line ≡ line) ⊎ (orient s line ≡ reverse line)
+-- a line turned is the line as it is, or reversed, so what holds of both holds of it
+pub orient-keeps : (P : List Point → Type 0) (s : Settings) (line : List Point) → P line → P (reverse line) → P (orient s line)
 unfolding orient
-orient-cases s line = go (endPoints line)
+orient-keeps P s line p q = go (endPoints line)
   where
-    turn : (t : Bool) → (elim t [ true ↦ reverse line | false ↦ line ] ≡ line) ⊎ (elim t [ true ↦ reverse line | false ↦ line ] ≡ reverse line)
-    turn true = inr refl
-    turn false = inl refl
-
-    turned : EndPoints → List Point
-    turned e = elim e [
+    go : (e : EndPoints) → P (elim e [
       | empty ↦ line
-      | ends p q ↦ elim (better (inside s) (distance s q) (distance s p)) [ true ↦ reverse line | false ↦ line ]
-    ]
-
-    go : (e : EndPoints) → (turned e ≡ line) ⊎ (turned e ≡ reverse line)
-    go empty = inl refl
-    go (ends p q) = turn (better (inside s) (distance s q) (distance s p))
-
--- so what holds of both holds of the line turned
-orient-keeps : (P : List Point → Type 0) (s : Settings) (line : List Point) → P line → P (reverse line) → P (orient s line)
-orient-keeps P s line p q = elim (orient-cases s line) [ inl e ↦ rw e p | inr e ↦ rw e q ]
+      | ends a b ↦ elim (better (inside s) (distance s b) (distance s a)) [ true ↦ reverse line | false ↦ line ]
+    ])
+    go empty = p
+    go (ends a b) = either P (reverse line) line q p (better (inside s) (distance s b) (distance s a))
 
 pub orient-sum : (w : Point → Point → ℕ) → ((a b : Point) → w a b ≡ w b a) → (s : Settings) (line : List Point) → lineSum w (orient s line) ≡ lineSum w line
 orient-sum w symmetric s line = orient-keeps (λ (l : List Point). lineSum w l ≡ lineSum w line) s line refl (lineSum-reverse w symmetric line)

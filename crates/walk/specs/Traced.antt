@@ -2,6 +2,7 @@
 use mathlib.Core.Path.{_≡_, refl, sym, ap, _∙_}
 use mathlib.Core.Logic.{_⊎_, inl, inr}
 use mathlib.Core.List.{List, [], _∷_, _++_}
+use mathlib.Core.Bool.{true≢false}
 use Prim.Native.Nat.{ℕ, suc, _%_, _<_}
 use native.Mathlib.Nat.{zero-add, zero-lt-suc}
 use native.Mathlib.Decide.{ℕ-discrete}
@@ -9,14 +10,14 @@ use native.Mathlib.Omega.{arith}
 use lib.ListN.{length}
 use lib.Ieee.{Float}
 use Rattle.drawing.specs.Drawing.{Point, Settings}
+use Rattle.drawing.specs.Members.{in-left, in-append}
 use Rattle.graph.specs.Graph.{Edge, edge}
 use Rattle.graph.specs.Degree.{hit, degree, oddNodes}
 use Rattle.graph.specs.Count.{lineSum, lastFrom, joint, joining}
 use Rattle.graph.specs.Ways.{In, All, Inside, Joins, Reach}
 use Rattle.graph.specs.Sums.{hit-same, hit-other, degree-append}
-use Rattle.graph.specs.Lines.{in-front, in-append}
 use Rattle.graph.specs.Odd.{oddNodes-member, oddNodes-ascends, even-else}
-use Rattle.graph.specs.Connected.{reach-trans, reach-sym, reach-more}
+use Rattle.graph.specs.Connected.{reach-trans, reach-sym, joined-more, reach-more}
 use Rattle.repair.specs.Distance.{zeroLength}
 use Rattle.walk.specs.Walk.{Entry, circuit}
 use Rattle.walk.specs.Line.{best, withEdges, euler, hierholzer}
@@ -38,9 +39,6 @@ pub record Traced (n : ℕ) (es : List Edge) (line : List ℕ) : Type 0 where
 
 -- ---- a circuit, where no node is odd
 
-none-not-two : (x y : ℕ) → _≡_ {A = List ℕ} [] (x ∷ y ∷ []) → ⊥
-none-not-two x y e = let z : _≡_ {A = ℕ} 0 1 = cc in omega arith
-
 circuit-traced : (n : ℕ) (es : List Edge) (s : ℕ) (o : List Entry) → Inside n es → s < n → oddNodes n es ≡ [] → Circuit es s o → Traced n es (nodesOf o)
 circuit-traced n es s o inside l h c = record {
   first = c .first .node;
@@ -50,7 +48,7 @@ circuit-traced n es s o inside l h c = record {
   within = rw (c .is) (rw (c .begins) l, trail-within n es inside s (c .first) (c .rest) (c .trail));
   count = circuit-count es s o c;
   closed = λ k. trail-last es s (c .first) (c .rest) (c .trail) ∙ sym (c .begins);
-  ends = λ x y k. absurd (none-not-two x y (sym h ∙ k));
+  ends = λ x y k. absurd (true≢false (cc));
 }
 
 -- ---- a circuit cut, where u and v are odd
@@ -91,7 +89,7 @@ cut-traced n es u v x line inside h c = record {
   steps = c .steps;
   within = c .within n inside;
   count = c .count;
-  closed = λ k. absurd (none-not-two u v (sym k ∙ h));
+  closed = λ k. absurd (true≢false (cc));
   ends = λ a b k. turn a b (c .joins) (cc) (cc);
 }
   where
@@ -126,7 +124,7 @@ module _ (s : Settings) (p : Point) (ps : List Point) (es : List Edge) (inside :
       let lv : v < n = oddNodes-member n es v .0 (rw h (inr (inl refl))) .0 in
       let l : w < n = best-keeps (λ (y : ℕ). y < n) s (p ∷ ps) (u ∷ v ∷ []) (zero-lt-suc (length ps)) (lu, (lv, tt)) in
       let more = inside-with n es u v zeroLength inside lu lv in
-      let c = circuit-is (es ++ (x ∷ [])) w (even-with n es u v zeroLength inside h) (λ e i. reach-more (λ y k. in-front y es (x ∷ []) k) (from w (e .a) l (more e i .0))) in
+      let c = circuit-is (es ++ (x ∷ [])) w (even-with n es u v zeroLength inside h) (λ e i. reach-more (λ a b. joined-more (λ y k. in-left y es (x ∷ []) k)) (from w (e .a) l (more e i .0))) in
       rw (euler, h) (cut-traced n es u v zeroLength _ more h (cut-line es x w (circuit (es ++ (x ∷ [])) w) c))
 
 -- Every edge of a connected graph is gone along once. The line ends where it began if no node is odd, and runs from one odd node to the other if two are.

@@ -8,6 +8,7 @@ use Prim.Native.Nat.{ℕ, zero, suc, _+_, _*_, _%_, _<_}
 use native.Mathlib.Nat.{zero-add, not-suc-le-zero}
 use native.Mathlib.Omega.{arith}
 use lib.ListN.{length, set}
+use Rattle.drawing.specs.Members.{All, all-imp}
 use Rattle.graph.specs.Graph.{Edge}
 use Rattle.graph.specs.Degree.{hit}
 use Rattle.graph.specs.Count.{sumOver}
@@ -50,8 +51,7 @@ From es s r (u ∷ us) = Entered es r u × Trail es s u us
 
 -- none of these nodes has a free edge
 abbrev pub Done : List Edge → List Bool → List Entry → Type 0
-Done es used [] = Unit {0}
-Done es used (t ∷ ts) = (freeSum (atNode (t .node)) 0 es used ≡ 0) × Done es used ts
+Done es used ts = All (λ (t : Entry). freeSum (atNode (t .node)) 0 es used ≡ 0) ts
 
 pub record Walking (es : List Edge) (s r : ℕ) (used : List Bool) (top : Entry) (stack out : List Entry) : Type 0 where
   pub each : (g : Weight) → bySum es g (top ∷ stack) + bySum es g out + freeSum g 0 es used ≡ allSum g 0 es
@@ -74,9 +74,7 @@ pub record Walked (es : List Edge) (s : ℕ) (o : List Entry) : Type 0 where
 
 module _ (es : List Edge) (s : ℕ) where
   done-use : (used : List Bool) (u i v : ℕ) (ts : List Entry) → Leads es used u i v → Done es used ts → Done es (set used i true) ts
-  done-use used u i v [] l d = tt
-  done-use used u i v (t ∷ ts) l d =
-      (omega (arith, freeSum-use (atNode (t .node)) 0 es used i (l .isEdge) (l .free), d .0), done-use used u i v ts l (d .1))
+  done-use used u i v ts l d = all-imp _ _ (λ t z. omega (arith, freeSum-use (atNode (t .node)) 0 es used i (l .isEdge) (l .free))) ts d
 
   -- along an edge
   push : (r : ℕ) (used : List Bool) (top : Entry) (stack out : List Entry) (i v : ℕ) → Walking es s r used top stack out → Leads es used (top .node) i v
