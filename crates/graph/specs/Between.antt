@@ -6,10 +6,10 @@ use mathlib.Core.Bool.{and-false}
 use Prim.Native.Nat.{ℕ, _+_, _≤_, _<_}
 use native.Mathlib.Omega.{arith}
 use lib.ListN.{length}
-use Rattle.drawing.specs.Drawing.{Point, same}
+use Rattle.drawing.specs.Drawing.{Point}
 use Rattle.drawing.specs.Members.{All}
 use Rattle.graph.specs.Graph.{nodeOf, pointAt}
-use Rattle.graph.specs.Degree.{one, hit}
+use Rattle.graph.specs.Degree.{hit}
 use Rattle.graph.specs.Count.{sumOver, stepSum, lineSum, joint, lies, stepsBetween, touches}
 use Rattle.graph.specs.Nodes.{IsNode, Numbered, is-node, by-number, no-node}
 

@@ -1,7 +1,7 @@
 -- Counting edges, strokes, and steps along a line.
-use Prim.Native.Nat.{ℕ, zero, suc, _+_}
+use Prim.Native.Nat.{ℕ, _+_}
 use mathlib.Core.List.{List, [], _∷_}
-use mathlib.Core.Bool.{Bool, _&&_, _||_}
+use mathlib.Core.Bool.{_&&_, _||_}
 use lib.Dec.{eqb}
 use Rattle.drawing.specs.Drawing.{Point, same}
 use Rattle.graph.specs.Chain.{Stroke}

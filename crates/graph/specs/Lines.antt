@@ -1,5 +1,5 @@
 -- Laws of lines: sums of steps and ends of two lines joined and of a line reversed, and the end of a line's image.
-use mathlib.Core.Path.{_≡_, refl, sym, ap, _∙_}
+use mathlib.Core.Path.{_≡_, refl, sym, _∙_}
 use mathlib.Core.List.{List, [], _∷_, _++_, map, reverse, reverseAux}
 use Prim.Native.Nat.{ℕ, _+_}
 use native.Mathlib.Nat.{zero-add, add-zero}

@@ -2,12 +2,11 @@
 use Prim.Native.Nat.{ℕ, _+_, _<_}
 use mathlib.Core.Path.{_≡_}
 use mathlib.Core.Logic.{_⊎_, _↔_}
-use mathlib.Core.List.{List, [], _∷_}
-use mathlib.Core.Bool.{Bool, true, false}
-use lib.ListN.{length}
+use mathlib.Core.List.{List, _∷_}
+use mathlib.Core.Bool.{true, false}
 use Rattle.drawing.specs.Drawing.{Point, closing}
 use Rattle.walk.specs.Line.{lastOf}
-use Rattle.planner.specs.Plan.{Lent, Planned, Answer, planned, plan, drawingIn}
+use Rattle.planner.specs.Plan.{Lent, Planned, planned, plan, drawingIn}
 use Rattle.planner.specs.Words.{lineWritten, stepsBetween, piecesBetween, linksBetween, copiesBetween, odd, leftOdd}
 
 -- no point is odd

@@ -1,8 +1,7 @@
 -- The graph of a file's drawing, in the words of document 01: edges between two nodes are the pieces and links between their points, and nothing is drawn at a point that is no node.
-use mathlib.Core.Path.{_≡_, refl, sym, _∙_}
-use mathlib.Core.Logic.{_⊎_}
+use mathlib.Core.Path.{_≡_, refl}
 use mathlib.Core.List.{List}
-use Prim.Native.Nat.{ℕ, _+_, _^_, _≤_, _<_}
+use Prim.Native.Nat.{ℕ, _+_, _^_, _<_}
 use lib.ListN.{length}
 use lib.Ieee.{binary64}
 use Rattle.sums.specs.Key.{Nonneg}
@@ -12,11 +11,10 @@ use Rattle.drawing.specs.Read.{recordsOf}
 use Rattle.drawing.specs.OnGrid.{OnGrid, lines-on, links-on}
 use Rattle.drawing.specs.Accepted.{Fits, counts-fit}
 use Rattle.graph.specs.Chain.{Stroke, piecesOf, linksOf, strokesOf}
-use Rattle.graph.specs.Graph.{Edge, nodeOf, pointAt, buildGraph}
-use Rattle.graph.specs.Degree.{degree}
-use Rattle.graph.specs.Count.{lies, touches, joining, strokesBetween, strokesAt}
+use Rattle.graph.specs.Graph.{Edge, pointAt, buildGraph}
+use Rattle.graph.specs.Count.{lies, touches, strokesBetween, strokesAt}
 use Rattle.graph.specs.Sums.{sumOver-append}
-use Rattle.graph.specs.Built.{built-joining, built-degree, built-none, built-untouched, built-on, built-weights}
+use Rattle.graph.specs.Built.{built-on, built-weights}
 use Rattle.graph.specs.Few.{counted-few}
 use Rattle.planner.specs.Plan.{drawingIn, graphIn}
 use Rattle.planner.specs.Words.{piecesBetween, linksBetween, drawnAt}

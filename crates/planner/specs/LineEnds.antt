@@ -3,20 +3,19 @@ use mathlib.Core.Path.{_≡_, refl, sym, ap, _∙_, subst}
 use mathlib.Core.Logic.{_⊎_, inl, inr, _↔_}
 use mathlib.Core.List.{List, [], _∷_, map}
 use mathlib.Core.Bool.{Bool, true, false, true≢false}
-use Prim.Native.Nat.{ℕ, zero, suc, _+_, _%_, _≤_, _<_}
+use Prim.Native.Nat.{ℕ, _+_, _%_, _<_}
 use native.Mathlib.Nat.{lt-of-not-le, eq-zero-or-pos}
 use native.Mathlib.Decide.{decLe}
 use native.Mathlib.Omega.{arith}
 use lib.ListN.{length}
-use lib.Dec.{eqb}
 use borrow.Author.Tests.{eqb-true, eq-eqb, ne-eqb}
-use Rattle.drawing.specs.Drawing.{Point, Settings, closing, Drawing}
+use Rattle.drawing.specs.Drawing.{Point, closing, Drawing}
 use Rattle.drawing.specs.Members.{All}
 use Rattle.graph.specs.Chain.{strokesOf}
-use Rattle.graph.specs.Graph.{Edge, nodeOf, pointAt, buildGraph}
+use Rattle.graph.specs.Graph.{nodeOf, pointAt, buildGraph}
 use Rattle.graph.specs.Degree.{isOdd, degree, oddNodes}
 use Rattle.graph.specs.Count.{lastFrom, strokesAt}
-use Rattle.graph.specs.Ways.{In, Inside, Reach}
+use Rattle.graph.specs.Ways.{In, Reach}
 use Rattle.graph.specs.Odd.{oddNodes-member, even-else}
 use Rattle.graph.specs.Lines.{Runs, lastFrom-map}
 use Rattle.graph.specs.Nodes.{node-point, distinct}
@@ -24,7 +23,6 @@ use Rattle.graph.specs.Built.{built-numbered, built-inside, built-degree, built
 use Rattle.repair.specs.Repair.{Repair}
 use Rattle.repair.specs.Repaired.{Repaired}
 use Rattle.walk.specs.Line.{hierholzer, orient, endPoints}
-use Rattle.walk.specs.Traced.{Traced}
 use Rattle.walk.specs.Oriented.{orient-ends}
 use Rattle.planner.specs.Counted.{left-odd, trace, line, copiesTouching, left-degree, left-untouched}
 

@@ -1,20 +1,19 @@
 -- From the bytes of a file, the lengths of the two work tables and the output's bytes to the answer.
 use Prim.Native.Nat.{ℕ, _+_, _*_}
 use mathlib.Core.List.{List, [], _∷_, _++_}
-use mathlib.Core.Bool.{Bool, true, false, not}
+use mathlib.Core.Bool.{Bool, false, not}
 use lib.ListN.{length, drop}
 use lib.Dec.{eqb, ltb}
-use lib.Ieee.{Float, binary64, toBits}
+use lib.Ieee.{binary64, toBits}
 use Rattle.grid.specs.Grid.{writePlace, writeOnGrid}
 use Rattle.limits.specs.Limits.{mostOdd}
 use Rattle.drawing.specs.Bytes.{bytes}
-use Rattle.drawing.specs.Drawing.{Point, Settings, Drawing}
-use Rattle.drawing.specs.Refusal.{Condition, condition, Verdict, refused, accepted, verdict}
+use Rattle.drawing.specs.Drawing.{Point, Drawing}
+use Rattle.drawing.specs.Refusal.{Condition, condition, refused, accepted, verdict}
 use Rattle.drawing.specs.Read.{recordsOf, drawingOf, readConditions}
-use Rattle.graph.specs.Graph.{Edge, Graph, buildGraph}
+use Rattle.graph.specs.Graph.{Graph, buildGraph}
 use Rattle.graph.specs.Degree.{oddNodes, oddFrom}
 use Rattle.graph.specs.Reach.{allReached}
-use Rattle.repair.specs.Distance.{zeroLength}
 use Rattle.repair.specs.Repair.{Repair, Repairing, stopped, repaired, drawn, fixParity, tooManyOdd, tableShort}
 use Rattle.walk.specs.Line.{lineOf}
 

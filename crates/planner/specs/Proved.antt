@@ -1,46 +1,38 @@
 -- Demand 3 holds of every file that is accepted.
 use mathlib.Core.Path.{_≡_, refl, sym, ap, ap₂, _∙_, subst}
-use mathlib.Core.Logic.{_⊎_, inl, inr, _↔_}
-use mathlib.Core.List.{List, [], _∷_, _++_, map}
+use mathlib.Core.Logic.{_⊎_, inl, inr}
+use mathlib.Core.List.{List, _∷_, map}
 use mathlib.Core.Bool.{true, false, true≢false}
-use Prim.Native.Nat.{ℕ, zero, suc, _+_, _*_, _^_, _≤_, _<_}
-use native.Mathlib.Nat.{not-suc-le-zero, le-of-suc-le-suc}
+use Prim.Native.Nat.{ℕ, _+_, _*_, _^_, _<_}
 use native.Mathlib.Omega.{arith}
-use lib.ListN.{length, drop}
-use lib.Dec.{eqb, ltb}
-use lib.Ieee.{Float, binary64, toBits}
+use lib.ListN.{length}
 use borrow.Author.Tests.{not-false, eqb-false}
-use Rattle.limits.specs.Limits.{mostOdd, mostEdges}
-use Rattle.drawing.specs.Drawing.{Point, Settings, closing, Drawing}
-use Rattle.drawing.specs.Refusal.{Condition, condition, Verdict, refused, accepted, verdict}
+use Rattle.drawing.specs.Drawing.{Point, Drawing}
+use Rattle.drawing.specs.Refusal.{Verdict, refused, accepted, verdict}
 use Rattle.drawing.specs.Members.{All, in-all, all-map}
-use Rattle.drawing.specs.OnGrid.{OnGrid, lines-on, links-on}
+use Rattle.drawing.specs.OnGrid.{OnGrid}
 use Rattle.drawing.specs.Accepted.{accepted-fits, none-holds}
-use Rattle.drawing.specs.Read.{recordsOf, drawingOf, readConditions}
-use Rattle.graph.specs.Chain.{usesOf, piecesOf, linksOf, strokesOf}
-use Rattle.graph.specs.Graph.{Edge, Graph, pointAt, firstUses, buildGraph}
+use Rattle.drawing.specs.Read.{readConditions}
+use Rattle.graph.specs.Chain.{strokesOf}
+use Rattle.graph.specs.Graph.{pointAt, buildGraph}
 use Rattle.graph.specs.Degree.{isOdd}
-use Rattle.graph.specs.Count.{sumOver, lineSum, lies, touches, stepsBetween, strokesBetween, strokesAt}
+use Rattle.graph.specs.Count.{sumOver, lineSum, touches, stepsBetween, strokesAt}
 use Rattle.graph.specs.Reach.{allReached}
 use Rattle.graph.specs.Ways.{Reach}
 use Rattle.graph.specs.Reached.{all-reached}
-use Rattle.graph.specs.Nodes.{uses-all}
-use Rattle.graph.specs.Strokes.{uses-of-all}
-use Rattle.graph.specs.Sums.{sumOver-append}
 use Rattle.graph.specs.Built.{built-inside}
-use Rattle.graph.specs.Few.{counted-few}
-use Rattle.repair.specs.Repair.{Repair, Repairing, stopped, repaired, fixParity}
+use Rattle.repair.specs.Repair.{Repair, Repairing, stopped, repaired}
 use Rattle.repair.specs.Repaired.{Repaired, fixed}
 use Rattle.repair.specs.Stops.{stops}
-use Rattle.walk.specs.Line.{orient, hierholzer, lineOf, lastOf}
+use Rattle.walk.specs.Line.{lineOf}
 use Rattle.walk.specs.Oriented.{orient-all}
-use Rattle.planner.specs.Plan.{Lent, Planned, Answer, refusal, planned, lineRecord, drawingIn, graphIn, repairIn, stoppedBy, repairOr, lineIn, planConditions, answerIn, plan}
-use Rattle.planner.specs.Words.{lineWritten, piecesBetween, linksBetween, retracesIn, copiesBetween, drawnAt, copiesAt, odd, leftOdd}
+use Rattle.planner.specs.Plan.{Lent, Planned, refusal, planned, drawingIn, graphIn, repairIn, stoppedBy, lineIn, planConditions, answerIn, plan}
+use Rattle.planner.specs.Words.{lineWritten, retracesIn, copiesBetween, copiesAt, odd, leftOdd}
 use Rattle.planner.specs.Written.{line-back}
 use Rattle.planner.specs.Drawn.{drawn-between, drawn-at, graph-on, graph-few}
 use Rattle.planner.specs.Counted.{nodeLine, line, ways, copies, copiesTouching, steps-counted, copies-drawn, steps-apart, line-few}
 use Rattle.planner.specs.LineEnds.{ends-meet, ends-odd}
-use Rattle.planner.specs.Demand3.{NoneOdd, Ends, Demand3, Statement}
+use Rattle.planner.specs.Demand3.{Ends, Demand3, Statement}
 
 -- ---- what an accepted file is
 

@@ -6,7 +6,7 @@ use lib.ListN.{length, replicate}
 use Rattle.grid.specs.Grid.{origin, gridExponent}
 use Rattle.drawing.specs.Bytes.{bytes}
 use Rattle.drawing.specs.Drawing.{Point}
-use Rattle.planner.specs.Plan.{Lent, Planned, Answer, refusal, planned, pointBytes, lineRecord, plan}
+use Rattle.planner.specs.Plan.{Answer, refusal, planned, pointBytes, lineRecord, plan}
 
 -- ---- files. Coordinates are in pixels; the canvas is 10 by 10.
 

@@ -1,17 +1,16 @@
 -- The words of demand 3, as document 01 has them.
-use Prim.Native.Nat.{ℕ, _+_, _*_, _/_}
-use mathlib.Core.List.{List, [], _∷_, map}
+use Prim.Native.Nat.{ℕ, _+_, _/_}
+use mathlib.Core.List.{List, map}
 use mathlib.Core.Bool.{Bool}
-use lib.ListN.{length, take, drop}
+use lib.ListN.{drop}
 use Rattle.drawing.specs.Bytes.{number}
 use Rattle.drawing.specs.Drawing.{Point}
 use Rattle.drawing.specs.Read.{points}
 use Rattle.graph.specs.Chain.{piecesOf, linksOf}
-use Rattle.graph.specs.Graph.{Graph, pointAt}
+use Rattle.graph.specs.Graph.{pointAt}
 use Rattle.graph.specs.Degree.{isOdd}
 use Rattle.graph.specs.Count.{sumOver, lineSum, touches, strokesAt}
 pub use Rattle.graph.specs.Count.{lies, stepsBetween, strokesBetween}
-use Rattle.repair.specs.Repair.{Repair}
 use Rattle.planner.specs.Plan.{drawingIn, graphIn, repairIn, repairOr}
 
 -- The line written is the list of points in the kind 4 record at the front of the output.

@@ -8,7 +8,7 @@ use lib.Seq.{drop-drop}
 use lib.Ieee.{binary64}
 use lib.Ieee.Bits.{toBits-lt}
 use lib.Ieee.Fits.{round-fits}
-use Rattle.grid.specs.Grid.{origin, gridExponent, readPlace, writePlace, coordinate}
+use Rattle.grid.specs.Grid.{origin, gridExponent, readPlace, writePlace}
 use Rattle.grid.specs.Back.{read-write, write-is, coordinate-is}
 use Rattle.drawing.specs.Bytes.{number, bytes}
 use Rattle.drawing.specs.Back.{number-bytes, drop-bytes}

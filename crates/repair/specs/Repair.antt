@@ -1,18 +1,18 @@
 -- fix_parity: pairs of odd nodes are joined by retraces, so that none or two nodes are left odd.
-use Prim.Native.Nat.{ℕ, zero, suc, _+_, _*_, _^_}
+use Prim.Native.Nat.{ℕ, _+_, _*_, _^_}
 use mathlib.Core.Path.{_≡_, refl}
 use mathlib.Core.List.{List, [], _∷_, _++_}
-use mathlib.Core.Bool.{Bool, true, false, _&&_, _||_, not}
+use mathlib.Core.Bool.{Bool, true, false, _&&_, _||_}
 use lib.ListN.{length, getD}
 use lib.Dec.{eqb, leb, ltb}
 use lib.IntN.{pos, negsuc}
 use lib.Ieee.{Float, fin, binary64, add}
-use Rattle.drawing.specs.Drawing.{Point, Settings, optimal, closing}
+use Rattle.drawing.specs.Drawing.{Settings, optimal, closing}
 use Rattle.limits.specs.Limits.{mostEdges}
 use Rattle.graph.specs.Graph.{Edge, edge, Graph}
 use Rattle.graph.specs.Degree.{oddNodes, oddFrom}
 use Rattle.repair.specs.Distance.{distances, distanceAt, infinity, zeroLength}
-use Rattle.repair.specs.Retrace.{Path, found, error, shortestPath, Laid, layPath, tiny}
+use Rattle.repair.specs.Retrace.{found, error, shortestPath, layPath, tiny}
 use Rattle.repair.specs.Pairing.{Pair, pair, greedyPairs, optimalPairs}
 
 -- the graph's edges with the copies, the retraces that laid them, in order, and the length of the retraces

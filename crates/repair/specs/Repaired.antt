@@ -19,7 +19,7 @@ use Rattle.graph.specs.Sums.{hit-same}
 use Rattle.graph.specs.Handshake.{handshake, sum-add, sum-same, sum-none, sum-hit, length-odd}
 use Rattle.graph.specs.Occurs.{count, count-odd, count-outside, two-odd}
 use Rattle.repair.specs.Distance.{zeroLength}
-use Rattle.repair.specs.Pairing.{Pair, pair, greedyPairs, optimalPairs}
+use Rattle.repair.specs.Pairing.{Pair, pair}
 use Rattle.repair.specs.Repair.{Repair, Repairing, stopped, repaired, applyMatching, rows, distanceIn, pairsOf, close, closeIf, drawn, fixParity}
 use Rattle.repair.specs.Pairs.{ends, AllButTwo, greedy-pairs}
 use Rattle.repair.specs.Matched.{optimal-pairs}

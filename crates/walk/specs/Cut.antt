@@ -1,6 +1,5 @@
 -- The cut: of a circuit that goes along one more edge x, the line that is left when the step by x is cut. It loses that step and no other, and runs from one end of x to the other.
 use mathlib.Core.Path.{_≡_, refl, sym, ap, _∙_, subst}
-use mathlib.Core.Logic.{inl, inr}
 use mathlib.Core.List.{List, [], _∷_, _++_, map-append, reverse, reverse-cons, append-nil, append-assoc}
 use mathlib.Core.Bool.{Bool, true, false, true≢false}
 use Prim.Native.Nat.{ℕ, suc, _+_, _<_}
