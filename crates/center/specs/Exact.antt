@@ -2,7 +2,7 @@
 -- most 11, on which the sum of two squares has at most 51 digits. Assumes nothing.
 use mathlib.Core.Path.{_≡_, refl, sym, ap, ap₂, _∙_, subst}
 use Prim.Native.Nat.{ℕ, suc, _+_, _-_, _*_, _^_, _≤_, _<_}
-use native.Mathlib.Nat.{mul-sub, mul-comm, mul-mul-mul-comm, mul-pos, mul-le-mul, mul-le-mul-right, mul-lt-mul-of-pos-right, lt-of-mul-lt-mul-right, pow-succ'}
+use native.Mathlib.Nat.{mul-sub, mul-comm, mul-mul-mul-comm, mul-pos, mul-le-mul, mul-le-mul-right, mul-lt-mul-of-pos-right, lt-of-mul-lt-mul-right, eq-of-mul-eq-mul-right, pow-succ'}
 use native.Mathlib.Omega.{arith}
 use mathlib.Core.Bool.{Bool, true, false, not, _&&_, Bool·beq, cond}
 use lib.Dec.{T, ltb, ltb→lt, lt→ltb, nltb→le, lit≤}
@@ -59,7 +59,7 @@ unfolding sum
 exact-sum s t a b g G h = go (Bool·beq s t) (ltb a b) (ltb→lt a b) (nltb→le a b)
   where
     one : (u : Bool) (n : ℕ) → n < 2 ^ 53 → Equals (round binary64 u n (2 ^ g)) n (2 ^ g)
-    one u n l = size-of (round binary64 u n (2 ^ g)) u n (2 ^ g) (exact-fraction u n g G l)
+    one u n l = size-of (round binary64 u n (2 ^ g)) u n (2 ^ g) (exact-fraction binary64 u n g (omega arith) l)
 
     is : (u : Bool) (n k : ℕ) → n < 2 ^ 53 → n ≡ k → Equals (round binary64 u n (2 ^ g)) k (2 ^ g)
     is u n k l e = subst (λ (x : ℕ). Equals (round binary64 u n (2 ^ g)) x (2 ^ g)) e (one u n l)
@@ -137,6 +137,12 @@ lt-values (fin s m e) (fin t n d) a b c p v w =
 
 -- ---- on a grid of 1 / 2 ^ g, in half steps
 
+-- from one fraction to another of the same size
+rescaled : (x : Float) (s : Bool) (a c b d : ℕ) → 0 < c → b * c ≡ a * d → HasValue x s a c → HasValue x s b d
+rescaled nan s a c b d p h v = v
+rescaled (inf t) s a c b d p h v = v
+rescaled (fin t m e) s a c b d p h v = (v .0, eq-of-mul-eq-mul-right c p (m * up e * d) (b * down e) (omega (arith, ap (λ (x : ℕ). x * d) (v .1), ap (λ (x : ℕ). x * down e) h)))
+
 -- how many squared half steps come to 1
 abbrev pub unit : ℕ → ℕ
 unit g = 2 ^ suc g * 2 ^ suc g
@@ -145,20 +151,11 @@ module _ (g : ℕ) (G : g ≤ 11) where
   steps-small : 2 ^ g ≤ 2 ^ 11
   steps-small = pow-mono G
 
-  twice : (x : Float) (s : Bool) (a : ℕ) → HasValue x s a (2 ^ g) → HasValue x s (2 * a) (2 ^ suc g)
-  twice nan s a v = v
-  twice (inf t) s a v = v
-  twice (fin t m e) s a v = (v .0, omega (arith, v .1, ap (λ (x : ℕ). m * up e * x) (pow-succ' 2 g)))
-
   place-value : (p : ℕ) → p ≤ 2 * originOfGrid g → HasValue (coordinateOnGrid g p) (ltb p (originOfGrid g)) (2 * gap p (originOfGrid g)) (2 ^ suc g)
   place-value p h =
-      let small : gap p (originOfGrid g) < 2 ^ 53 = omega (arith, steps-small) in
-      twice (coordinateOnGrid g p) (ltb p (originOfGrid g)) (gap p (originOfGrid g)) (coordinate-value g p (omega arith) small)
-
-  halves : (x : Float) (a : ℕ) → HasValue x false a (2 ^ 1) → HasValue x false (a * 2 ^ g) (2 ^ suc g)
-  halves nan a v = v
-  halves (inf t) a v = v
-  halves (fin t m e) a v = (v .0, omega (arith, ap (λ (x : ℕ). x * 2 ^ g) (v .1), ap (λ (x : ℕ). m * up e * x) (pow-succ' 2 g)))
+      let o = originOfGrid g in
+      rescaled (coordinateOnGrid g p) (ltb p o) (gap p o) (2 ^ g) (2 * gap p o) (2 ^ suc g) (pow-pos g) (omega (arith, ap (λ (x : ℕ). gap p o * x) (pow-succ' 2 g)))
+      (coordinate-value g p (omega arith) (omega (arith, steps-small)))
 
   middle-is : (side : ℕ) → side < 2 ^ 53 → middle side ≡ round binary64 false side (2 ^ 1)
   unfolding middle
@@ -166,8 +163,8 @@ module _ (g : ℕ) (G : g ≤ 11) where
 
   middle-value : (side : ℕ) → side ≤ mostSide → HasValue (middle side) false (side * 2 ^ g) (2 ^ suc g)
   middle-value side h =
-      halves (middle side) side
-      (subst (λ (x : Float). HasValue x false side (2 ^ 1)) (sym (middle-is side (omega arith))) (exact-fraction false side 1 (lit≤ tt) (omega arith)))
+      rescaled (middle side) false side (2 ^ 1) (side * 2 ^ g) (2 ^ suc g) (lit≤ tt) (omega (arith, ap (λ (x : ℕ). side * x) (pow-succ' 2 g)))
+      (subst (λ (x : Float). HasValue x false side (2 ^ 1)) (sym (middle-is side (omega arith))) (exact-fraction binary64 false side 1 (lit≤ tt) (omega arith)))
 
   -- a side's 2 ^ g * side is at most 2 ^ g * 8,192
   side-small : (side : ℕ) → side ≤ mostSide → side * 2 ^ g ≤ 8192 * 2 ^ g
@@ -202,7 +199,7 @@ module _ (g : ℕ) (G : g ≤ 11) where
         mul-le-mul h h
 
   exact-square : (n : ℕ) → n < 2 ^ 53 → HasValue (round binary64 false n (unit g)) false n (unit g)
-  exact-square n h = subst (λ (d : ℕ). HasValue (round binary64 false n d) false n d) (pow-add 2 (suc g) (suc g)) (exact-fraction false n (suc g + suc g) (omega arith) h)
+  exact-square n h = subst (λ (d : ℕ). HasValue (round binary64 false n d) false n d) (pow-add 2 (suc g) (suc g)) (exact-fraction binary64 false n (suc g + suc g) (omega arith) h)
 
   squares : (dx dy : Float) (n k : ℕ) → k * k ≤ 2 ^ 50 → Equals dx n (2 ^ suc g) → Equals dy k (2 ^ suc g)
       → mulAdd dx dx (mul binary64 dy dy) ≡ round binary64 false (n * n + k * k) (unit g)

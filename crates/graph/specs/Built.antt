@@ -2,16 +2,15 @@
 use mathlib.Core.Path.{_≡_, refl, sym, ap, _∙_}
 use mathlib.Core.Logic.{_⊎_}
 use mathlib.Core.List.{List, [], _∷_, map}
-use Prim.Native.Nat.{ℕ, zero, suc, zero-le, _+_, _*_, _^_, _≤_, _<_}
-use native.Mathlib.Nat.{not-suc-le-zero, mul-le-mul}
+use Prim.Native.Nat.{ℕ, zero, suc, zero-le, _+_, _^_, _≤_, _<_}
+use native.Mathlib.Nat.{not-suc-le-zero}
 use native.Mathlib.Omega.{arith}
 use lib.ListN.{length}
 use lib.Dec.{lit≤}
 use lib.Ieee.{binary64}
 use Rattle.sums.specs.Key.{Nonneg}
-use Rattle.grid.specs.Grid.{gridExponent, origin, gap}
-use Rattle.length.specs.Root.{square}
-use Rattle.length.specs.Length.{length-nonneg}
+use Rattle.grid.specs.Grid.{gridExponent}
+use Rattle.length.specs.Length.{squared-lt, length-nonneg}
 use Rattle.drawing.specs.Drawing.{Point, Drawing}
 use Rattle.drawing.specs.Same.{differ}
 use Rattle.drawing.specs.Members.{In, All, all-in, all-map, all-imp}
@@ -94,14 +93,8 @@ module _ (d : Drawing) where
 
 -- ---- weights
 
--- on the grid two places are at most 2 ^ 23 apart, so squared distances are at most 2 ^ 47
 squared-below : (p q : Point) → OnGrid p → OnGrid q → squared p q < 2 ^ 64
-squared-below p q g h =
-    let x : gap (p .x) (q .x) ≤ 2 * origin = omega arith in
-    let y : gap (p .y) (q .y) ≤ 2 * origin = omega arith in
-    let xx : square (gap (p .x) (q .x)) ≤ 2 ^ 46 = mul-le-mul x x in
-    let yy : square (gap (p .y) (q .y)) ≤ 2 ^ 46 = mul-le-mul y y in
-    omega arith
+squared-below p q g h = omega (arith, squared-lt (p .x) (p .y) (q .x) (q .y) (omega arith) (omega arith) (omega arith) (omega arith))
 
 -- every node is on the grid, and so is the point that stands for a number past the last
 pub built-on : (d : Drawing) → All (All OnGrid) (d .lines) → All (AtEnds OnGrid) (d .links) → (v : ℕ) → OnGrid (pointAt (buildGraph d .nodes) v)

@@ -5,7 +5,7 @@ use Prim.Native.Nat.{ℕ, zero, suc, _+_, _-_, _*_, _/_, _%_, _^_, _≤_, _<_}
 use native.Mathlib.Nat.{mul-assoc, zero-mul, mul-pos, mod-eq-of-lt, div-add-mod', div-mul-le-self, le-div-iff-mul-le, mul-le-mul-right, mul-lt-mul-of-pos-right, lt-of-lt-of-le, lt-of-le-of-lt, le-trans, le-of-eq, eq-or-lt-of-le, eq-zero-or-pos}
 use native.Mathlib.Omega.{arith}
 use mathlib.Core.Logic.{inl, inr}
-use mathlib.Core.Bool.{Bool, true, false, _&&_, cond}
+use mathlib.Core.Bool.{Bool, true, false, and-false, cond}
 use lib.Dec.{leb, eqb, not-T, eqb→eq, lit<}
 use lib.Pow.{pow-add, pow-pos, pow-mono, shl-lt, field}
 use lib.Ieee.{nan, inf, Format, binary64, prec, low, odd, hid, ones, ofFields, ofBits}
@@ -19,18 +19,14 @@ use Rattle.grid.specs.Back.{read-is}
 
 -- ---- what puts a number of steps off the grid
 
-and-no : (t : Bool) → (t && false) ≡ false
-and-no true = refl
-and-no false = refl
-
 pub part-of-step : (o : ℕ) (s : Bool) (a c : ℕ) → 0 < a % c → placeOfSteps o s a c ≡ Off
 part-of-step o s a c h = simp (ne-eqb (a % c) 0 (λ e. omega arith))
 
 pub too-far : (o : ℕ) (s : Bool) (a c : ℕ) → o < a / c → placeOfSteps o s a c ≡ Off
-too-far o s a c h = simp (lt-leb (a / c) o h, and-no)
+too-far o s a c h = simp (lt-leb (a / c) o h, and-false)
 
 negative-zero : (o c : ℕ) → placeOfSteps o true 0 c ≡ Off
-negative-zero o c = simp and-no
+negative-zero o c = simp and-false
 
 -- less than one step, and not zero
 under-one : (o : ℕ) (s : Bool) (a c : ℕ) → 0 < a → a < c → placeOfSteps o s a c ≡ Off

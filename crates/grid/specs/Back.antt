@@ -4,11 +4,11 @@ use mathlib.Core.Path.{_≡_, refl, sym, ap, _∙_, subst}
 use Prim.Native.Nat.{ℕ, zero, suc, _+_, _-_, _*_, _/_, _^_, _≤_, _<_}
 use native.Mathlib.Nat.{mul-assoc, mul-one, zero-mul, lt-of-le-of-lt, lt-of-lt-of-le, mul-le-mul-left}
 use native.Mathlib.Omega.{arith}
-use mathlib.Core.Bool.{Bool, true, false, not, _&&_, cond}
-use lib.Dec.{T, ltb, eqb, lit≤, ltb→lt, nltb→le, eqb→eq, T-not, not-T}
+use mathlib.Core.Bool.{Bool, true, false, true≢false, not, _&&_, cond}
+use lib.Dec.{T, ltb, eqb, lit<, lit≤, ltb→lt, nltb→le, eqb→eq, T-not, not-T}
 use lib.IntN.{ℤ}
 use lib.Pow.{pow-add, pow-pos, pow-mono, shl-lt}
-use lib.Ieee.{Float, nan, inf, fin, Format, binary64, prec, low, up, down, size, hid, top, isNan, fits, round, ofBits, toBits}
+use lib.Ieee.{Float, nan, inf, fin, Format, binary32, binary64, prec, emax, low, up, down, size, hid, top, isNan, fits, round, ofBits, toBits}
 use lib.Ieee.Fits.{down-pos, eq→eqb, round-fits}
 use lib.Ieee.Exact.{HasValue, round-exact}
 use lib.Ieee.Bits.{ofBits-toBits, toBits-ofBits}
@@ -53,15 +53,20 @@ pattern-of-value f (fin t m e) s a c C v =
 
 -- ---- the float at a place is exact
 
-split : (l g : ℕ) → g ≤ l → 2 ^ l ≡ 2 ^ (l - g) * 2 ^ g
+-- a larger power of two by a smaller
+pub split : (l g : ℕ) → g ≤ l → 2 ^ l ≡ 2 ^ (l - g) * 2 ^ g
 split l g h = let e : l ≡ l - g + g = omega arith in ap (λ (x : ℕ). 2 ^ x) e ∙ pow-add 2 (l - g) g
 
-pub exact-fraction : (s : Bool) (n g : ℕ) → g ≤ 40 → n < 2 ^ 53 → HasValue (round binary64 s n (2 ^ g)) s n (2 ^ g)
-exact-fraction s n g G h =
-    let j = 1074 - g in
-    let top : 53 + j ≤ 2098 = omega arith in
-    round-exact binary64 s n (2 ^ g) n j (pow-pos g) h (lt-of-lt-of-le (shl-lt 53 j h) (pow-mono top))
-    (ap (λ (x : ℕ). n * x) (split 1074 g (omega arith)) ∙ sym (mul-assoc n (2 ^ j) (2 ^ g)))
+-- a format's values have room for as many whole digits as it keeps
+pub room-above : (f : Format) → prec f < suc (emax f)
+room-above binary32 = lit< tt
+room-above binary64 = lit< tt
+
+pub exact-fraction : (f : Format) (s : Bool) (n g : ℕ) → g ≤ low f → n < 2 ^ prec f → HasValue (round f s n (2 ^ g)) s n (2 ^ g)
+exact-fraction f s n g G h =
+    let j = low f - g in
+    round-exact f s n (2 ^ g) n j (pow-pos g) h (lt-of-lt-of-le (shl-lt (prec f) j h) (pow-mono (omega (arith, room-above f))))
+    (ap (λ (x : ℕ). n * x) (split (low f) g G) ∙ sym (mul-assoc n (2 ^ j) (2 ^ g)))
 
 coordinate-fits : (g p : ℕ) → T (fits binary64 (coordinateOnGrid g p))
 coordinate-fits g p = subst (λ (x : Float). T (fits binary64 x)) (sym (coordinate-is g p)) (round-fits binary64 (ltb p (originOfGrid g)) (gap p (originOfGrid g)) (2 ^ g))
@@ -69,7 +74,7 @@ coordinate-fits g p = subst (λ (x : Float). T (fits binary64 x)) (sym (coordina
 pub coordinate-value : (g p : ℕ) → g ≤ 40 → gap p (originOfGrid g) < 2 ^ 53 → HasValue (coordinateOnGrid g p) (ltb p (originOfGrid g)) (gap p (originOfGrid g)) (2 ^ g)
 coordinate-value g p G h =
     let o = originOfGrid g in
-    subst (λ (x : Float). HasValue x (ltb p o) (gap p o) (2 ^ g)) (sym (coordinate-is g p)) (exact-fraction (ltb p o) (gap p o) g G h)
+    subst (λ (x : Float). HasValue x (ltb p o) (gap p o) (2 ^ g)) (sym (coordinate-is g p)) (exact-fraction binary64 (ltb p o) (gap p o) g (omega arith) h)
 
 module _ (g : ℕ) (G : g ≤ 40) where
   origin-small : originOfGrid g < 2 ^ 53
@@ -123,8 +128,8 @@ module _ (g : ℕ) (G : g ≤ 40) where
 
   found : (x : Float) (p : ℕ) → placeOnGrid g x ≡ On p → T (not (isNan x)) × (p ≤ 2 * originOfGrid g) × (toBits binary64 (coordinateOnGrid g p) ≡ toBits binary64 x)
   unfolding placeOnGrid isNan
-  found nan p h = let z : _≡_ {A = ℕ} 0 1 = cc in absurd (omega arith)
-  found (inf s) p h = let z : _≡_ {A = ℕ} 0 1 = cc in absurd (omega arith)
+  found nan p h = absurd (true≢false (cc))
+  found (inf s) p h = absurd (true≢false (cc))
   found (fin s m e) p h =
       let o = originOfGrid g in
       let a = m * up e * 2 ^ g in

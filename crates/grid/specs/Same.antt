@@ -3,7 +3,7 @@ use mathlib.Core.Path.{_≡_, refl, sym, ap, _∙_}
 use Prim.Native.Nat.{ℕ, _+_, _-_, _*_, _/_, _%_, _^_, _≤_, _<_}
 use native.Mathlib.Nat.{mul-comm, mul-right-comm, mul-div-mul-right, mul-mod-left, div-add-mod', eq-of-mul-eq-mul-right, zero-mul, add-zero}
 use native.Mathlib.Omega.{arith}
-use mathlib.Core.Bool.{Bool, true, false, not, _&&_, cond}
+use mathlib.Core.Bool.{Bool, true, false, true≢false, not, _&&_, cond}
 use lib.Dec.{T, leb, eqb, eqb→eq, leb→le, not-T}
 use lib.Ieee.{Float, nan, inf, fin, up, down}
 use lib.Ieee.Exact.{HasValue}
@@ -89,4 +89,4 @@ passed o s a c p h = go (eqb (a % c) 0 && leb (a / c) o && not (s && eqb a 0)) (
           plain = and-r (w && n) z (k tt);
           is = cc;
         }
-    go false k e = let z : _≡_ {A = ℕ} 0 1 = cc in absurd (omega arith)
+    go false k e = absurd (true≢false (cc))

@@ -9,6 +9,7 @@ use lib.Dec.{lit<}
 use lib.Pow.{pow-pos, pow-add, pow-mono}
 use lib.Ieee.{Format, prec, size}
 use lib.Ieee.Digits.{size-lt, size-reaches}
+use Rattle.grid.specs.Back.{split}
 use Rattle.length.specs.Root.{square, wholeRoot, nearRoot, places, significand}
 use Rattle.length.specs.Whole.{IsNearRoot, whole-root, near-root, root-lt}
 
@@ -73,8 +74,7 @@ next-step p b t m j P B M h = elim (decLe t j) [ yes l ↦ multiple l | no g ↦
   where
     multiple : t ≤ j → (b + 1) * 2 ^ t ≤ m * 2 ^ j
     multiple l =
-        let back : j ≡ j - t + t = omega arith in
-        let e : m * 2 ^ j ≡ m * 2 ^ (j - t) * 2 ^ t = ap (λ (x : ℕ). m * 2 ^ x) back ∙ ap (λ (x : ℕ). m * x) (pow-add 2 (j - t) t) ∙ sym (mul-assoc m (2 ^ (j - t)) (2 ^ t)) in
+        let e : m * 2 ^ j ≡ m * 2 ^ (j - t) * 2 ^ t = ap (λ (x : ℕ). m * x) (split j t l) ∙ sym (mul-assoc m (2 ^ (j - t)) (2 ^ t)) in
         let c : b < m * 2 ^ (j - t) = lt-of-mul-lt-mul-right (2 ^ t) (lt-of-lt-of-le h (le-of-eq e)) in
         le-trans (mul-le-mul-right (2 ^ t) (omega arith)) (le-of-eq (sym e))
 

@@ -19,7 +19,7 @@ use Rattle.sums.specs.Sum.{plusZero, zero-key}
 use Rattle.grid.specs.Grid.{gap}
 use Rattle.length.specs.Root.{square, squaredOf, rootOver, lengthAt, lengthOf}
 use Rattle.length.specs.Nearest.{NearestRoot, nearest-mono}
-use Rattle.length.specs.Proved.{root-over-nearest, root-over-nonneg, root-over-finite, root-over-pos, root-over-least, root-over-zero}
+use Rattle.length.specs.Proved.{root-over-nearest, root-over-nonneg, root-over-finite, root-over-pos, root-over-zero}
 use Rattle.length.specs.Order.{root-over-order}
 
 pub short : (n : ℕ) → n < 2 ^ 64 → size n ≤ 2 * prec binary64
@@ -53,9 +53,6 @@ module _ (e : ℕ) (small : e ≤ prec binary64) where
 
   pub length-pos : (n : ℕ) → 0 < n → n < 2 ^ 64 → 0 < key binary64 (lengthAt e n)
   length-pos n p h = root-over-pos binary64 e n (short n h) small p
-
-  pub length-least : (n : ℕ) → 0 < n → n < 2 ^ 64 → key binary64 (lengthAt e 1) ≤ key binary64 (lengthAt e n)
-  length-least n p h = root-over-least binary64 e n (short n h) small p
 
   pub length-mono : (n m : ℕ) → n ≤ m → m < 2 ^ 64 → key binary64 (lengthAt e n) ≤ key binary64 (lengthAt e m)
   length-mono n m l h =

@@ -13,7 +13,7 @@ use lib.Ieee.Scale.{finite}
 use Rattle.sums.specs.Key.{Nonneg, key, key-digits, key-inj, value-finite}
 use Rattle.sums.specs.Sum.{round-nonneg, plusZero, zero-nonneg, zero-key}
 use Rattle.length.specs.Root.{square, wholeRoot, places, significand, root, rootOver}
-use Rattle.length.specs.Nearest.{NearestRoot, exactSquared, middleSquared, nearest-mono}
+use Rattle.length.specs.Nearest.{NearestRoot, exactSquared, middleSquared}
 use Rattle.length.specs.Whole.{IsNearRoot}
 use Rattle.length.specs.Digits.{four-pos, significand-near, significand-ge, significand-zero, whole-ge, next-step}
 use Rattle.length.specs.Value.{scaled, step, scaled-value, scaled-key, in-steps, step-pos, steps-pos, root-is, root-over-is}
@@ -108,10 +108,6 @@ module _ (f : Format) (e n : ℕ) (short : size n ≤ 2 * prec f) (small : e ≤
 
   pub root-over-pos : 0 < n → 0 < key f (rootOver f e n)
   root-over-pos p = rw root-over-key (mul-pos (lt-of-lt-of-le (pow-pos (prec f - 1)) (significand-ge f n short p)) (step-pos f e n))
-
-  -- nothing lies between 0 and the root of 1
-  pub root-over-least : 0 < n → key f (rootOver f e 1) ≤ key f (rootOver f e n)
-  root-over-least p = nearest-mono f e 1 n (rootOver f e 1) (rootOver f e n) p (root-over-nearest f e 1 (lit< tt) (omega (arith, size-le 1 1 (lit< tt), two f)) small) (root-over-nearest f e n p short small)
 
 pub root-over-zero : (f : Format) (e : ℕ) → e ≤ prec f → rootOver f e 0 ≡ plusZero
 root-over-zero f e small =

@@ -1,68 +1,46 @@
 -- The root and its quotient by 2 ^ e are exact: each is the significand over a power of two, with nothing rounded on the way.
 use mathlib.Core.Path.{_≡_, refl, sym, ap, _∙_}
-use mathlib.Core.Bool.{true, false, true≢false}
+use mathlib.Core.Bool.{false}
 use mathlib.Core.Logic.{inl, inr}
-use Prim.Native.Nat.{ℕ, zero, suc, _+_, _-_, _*_, _^_, _≤_, _<_, zero-le}
-use native.Mathlib.Nat.{lt-of-lt-of-le, eq-or-lt-of-le, mul-pos, mul-assoc, mul-one, add-zero, one-mul, zero-lt-suc, eq-of-mul-eq-mul-right}
+use Prim.Native.Nat.{ℕ, _+_, _-_, _*_, _^_, _≤_, _<_, zero-le}
+use native.Mathlib.Nat.{eq-or-lt-of-le, mul-pos, mul-assoc, mul-one, add-zero, one-mul, eq-of-mul-eq-mul-right}
 use native.Mathlib.Omega.{arith}
 use lib.IntN.{pos}
-use lib.Dec.{lit<, lit≤, eqb·suc-zero}
-use lib.Pow.{pow-pos, pow-add, pow-mono, pow-lt, shl-lt}
-use lib.Ieee.{Float, nan, inf, fin, Format, binary32, binary64, prec, emax, low, up, down, size, round, ofInt, div}
-use lib.Ieee.Fits.{two, two-le-pos, up-pos, down-pos, round-fits}
+use lib.Dec.{lit<, lit≤}
+use lib.Pow.{pow-pos, pow-add, pow-lt}
+use lib.Ieee.{Float, fin, Format, binary32, binary64, prec, low, size, round, ofInt, div}
+use lib.Ieee.Fits.{two, two-le-pos, round-fits}
 use lib.Ieee.Back.{round-whole}
 use lib.Ieee.Exact.{HasValue, round-exact}
-use lib.Ieee.Scale.{round-same}
 use Rattle.sums.specs.Key.{key, key-value}
+use Rattle.grid.specs.Back.{split, room-above, exact-fraction}
+use Rattle.grid.proofs.Quotient.{div-value}
 use Rattle.length.specs.Root.{square, places, significand, root, rootOver}
 use Rattle.length.specs.Nearest.{exactSquared}
 use Rattle.length.specs.Digits.{four, four-pos, places-is, significand-le}
 
--- every format has room for twice its digits below the point, and for as many above
+-- every format has room for twice its digits below the point
 room-below : (f : Format) → prec f + prec f ≤ low f
 room-below binary32 = lit≤ tt
 room-below binary64 = lit≤ tt
-
-room-above : (f : Format) → prec f < suc (emax f)
-room-above binary32 = lit< tt
-room-above binary64 = lit< tt
 
 -- a / 2 ^ j, for an a of the format's digits, is one of its values
 pub exact-value : (f : Format) (a j : ℕ) → j ≤ low f → a ≤ 2 ^ prec f → HasValue (round f false a (2 ^ j)) false a (2 ^ j)
 exact-value f a j J A =
     let t = low f - j in
-    let back : low f ≡ t + j = omega arith in
-    let units : 2 ^ low f ≡ 2 ^ t * 2 ^ j = ap (λ (x : ℕ). 2 ^ x) back ∙ pow-add 2 t j in
     elim (eq-or-lt-of-le A) [
-      | inr l ↦
-          round-exact f false a (2 ^ j) a t (pow-pos j) l (lt-of-lt-of-le (shl-lt (prec f) t l) (pow-mono (omega (arith, room-above f))))
-          (ap (λ (x : ℕ). a * x) units ∙ sym (mul-assoc a (2 ^ t) (2 ^ j)))
+      | inr l ↦ exact-fraction f false a j J l
       | inl q ↦
           round-exact f false a (2 ^ j) 1 (prec f + t) (pow-pos j) (pow-lt (two-le-pos (prec f) (two f)))
           (rw (one-mul (2 ^ (prec f + t))) (pow-lt (omega (arith, room-above f))))
-          (rw (q, units, one-mul, pow-add 2 (prec f) t) (sym (mul-assoc (2 ^ prec f) (2 ^ t) (2 ^ j))))
+          (rw (q, split (low f) j J, one-mul, pow-add 2 (prec f) t) (sym (mul-assoc (2 ^ prec f) (2 ^ t) (2 ^ j))))
     ]
-
--- a quotient by any fractions that the two values equal
-pub div-value : (f : Format) (x y : Float) (a c b d : ℕ) → 0 < c → 0 < b → 0 < d → HasValue x false a c → HasValue y false b d → div f x y ≡ round f false (a * d) (c * b)
-unfolding div
-div-value f nan y a c b d C B D v w = absurd v
-div-value f (inf s) y a c b d C B D v w = absurd v
-div-value f (fin true m e) y a c b d C B D v w = absurd (true≢false (v .0))
-div-value f (fin false m e) nan a c b d C B D v w = absurd w
-div-value f (fin false m e) (inf t) a c b d C B D v w = absurd w
-div-value f (fin false m e) (fin true n g) a c b d C B D v w = absurd (true≢false (w .0))
-div-value f (fin false m e) (fin false zero g) a c b d C B D v w = absurd (omega (arith, w .1, mul-pos B (down-pos g)))
-div-value f (fin false m e) (fin false (suc n) g) a c b d C B D v w =
-    rw (eqb·suc-zero n)
-    (round-same f false (m * up e * down g) (suc n * up g * down e) (a * d) (c * b) (mul-pos (mul-pos (zero-lt-suc n) (up-pos g)) (down-pos e)) (mul-pos C B)
-    (omega (arith, ap (λ (z : ℕ). z * (suc n * up g * d)) (v .1), ap (λ (z : ℕ). z * (m * up e * c)) (w .1))))
 
 -- the quotient of two whole numbers that are floats
 pub whole-quotient : (f : Format) (a b : ℕ) → a ≤ 2 ^ prec f → b ≤ 2 ^ prec f → 0 < b → div f (ofInt f (pos a)) (ofInt f (pos b)) ≡ round f false a b
 unfolding ofInt
 whole-quotient f a b A B P =
-    div-value f (round f false a 1) (round f false b 1) a 1 b 1 (lit< tt) P (lit< tt) (round-whole f false a A) (round-whole f false b B) ∙ rw (mul-one a, one-mul b)
+    div-value f (round f false a 1) (round f false b 1) false false a 1 b 1 (lit< tt) P (round-whole f false a A) (round-whole f false b B) ∙ rw (mul-one a, one-mul b)
 
 -- one of the significand's last digit, over 2 ^ e, in units
 abbrev pub step : Format → ℕ → ℕ → ℕ
@@ -93,25 +71,21 @@ module _ (f : Format) (n : ℕ) (short : size n ≤ 2 * prec f) where
   pub root-over-is : (e : ℕ) → e ≤ prec f → rootOver f e n ≡ scaled f e n
   root-over-is e small =
       root-over-divides f e n ∙ ap (λ (x : Float). div f x (fin false 1 (pos e))) (root-is f n)
-      ∙ div-value f (scaled f 0 n) (fin false 1 (pos e)) (significand f n) (2 ^ (places f n + 0)) (2 ^ e) 1 (pow-pos (places f n + 0)) (pow-pos e) (lit< tt) (scaled-value 0 zero-le) (refl, omega arith)
+      ∙ div-value f (scaled f 0 n) (fin false 1 (pos e)) false false (significand f n) (2 ^ (places f n + 0)) (2 ^ e) 1 (pow-pos (places f n + 0)) (pow-pos e) (scaled-value 0 zero-le) (refl, omega arith)
       ∙ rw (mul-one, add-zero, pow-add 2 (places f n) e)
 
   pub scaled-key : (e : ℕ) → e ≤ prec f → key f (scaled f e n) ≡ significand f n * step f e n
   scaled-key e small =
       let j = places f n + e in
-      let J = fits-below e small in
-      let back : low f ≡ low f - j + j = omega arith in
       eq-of-mul-eq-mul-right (2 ^ j) (pow-pos j) (key f (scaled f e n)) (significand f n * 2 ^ (low f - j))
       (key-value f (scaled f e n) (significand f n) (2 ^ j) (round-fits f false (significand f n) (2 ^ j)) (scaled-value e small)
-      ∙ ap (λ (x : ℕ). significand f n * 2 ^ x) back ∙ ap (λ (x : ℕ). significand f n * x) (pow-add 2 (low f - j) j) ∙ sym (mul-assoc (significand f n) (2 ^ (low f - j)) (2 ^ j)))
+      ∙ ap (λ (x : ℕ). significand f n * x) (split (low f) j (fits-below e small)) ∙ sym (mul-assoc (significand f n) (2 ^ (low f - j)) (2 ^ j)))
 
   -- 1, and what `NearestRoot` compares, in squared steps
   pub one-in-steps : (e : ℕ) → e ≤ prec f → square (2 ^ low f) ≡ 4 ^ places f n * (square (step f e n) * 4 ^ e)
   one-in-steps e small =
-      let t = low f - (places f n + e) in
-      let h = fits-below e small in
-      let back : low f ≡ t + (places f n + e) = omega arith in
-      let units : 2 ^ low f ≡ 2 ^ t * (2 ^ places f n * 2 ^ e) = ap (λ (x : ℕ). 2 ^ x) back ∙ pow-add 2 t (places f n + e) ∙ ap (λ (x : ℕ). 2 ^ t * x) (pow-add 2 (places f n) e) in
+      let j = places f n + e in
+      let units : 2 ^ low f ≡ step f e n * (2 ^ places f n * 2 ^ e) = split (low f) j (fits-below e small) ∙ ap (λ (x : ℕ). step f e n * x) (pow-add 2 (places f n) e) in
       rw (units, four (places f n), four e) (omega arith)
 
   pub in-steps : (e : ℕ) → e ≤ prec f → exactSquared f n ≡ 4 * (n * 4 ^ places f n) * (square (step f e n) * 4 ^ e)

@@ -6,7 +6,6 @@ use mathlib.Core.Bool.{Bool, true, false}
 use Prim.Native.Nat.{ℕ, _+_, _%_}
 use native.Mathlib.Nat.{add-zero}
 use native.Mathlib.Omega.{arith}
-use lib.ListN.{length, length-append}
 use lib.Dec.{eqb}
 use lib.Ieee.{binary64, add}
 use borrow.Author.Tests.{eqb-true, eqb-false}
@@ -48,11 +47,6 @@ lay-joining u vs l p q = lay-sum (joint p q) u vs l
 
 pub lay-degree : (u : ℕ) (vs : List ℕ) (l : Laid) (v : ℕ) → degree (lay u vs l .edges) v ≡ degree (l .edges) v + lineSum (λ (a b : ℕ). hit a v + hit b v) (u ∷ vs)
 lay-degree u vs l v = rw (degree-sum (lay u vs l .edges) v, degree-sum (l .edges) v) (lay-sum (λ (a b : ℕ). hit a v + hit b v) u vs l)
-
-pub lay-length : (u : ℕ) (vs : List ℕ) (l : Laid) → length (lay u vs l .edges) ≡ length (l .edges) + length vs
-unfolding lay
-lay-length u [] l = sym (add-zero _)
-lay-length u (v ∷ vs) l = omega (arith, lay-length v vs (laid u v l), length-append (l .edges) (copy u v (l .edges) ∷ []))
 
 -- ---- parity: each node inside a walk is left as often as it is come to
 walk-parity : (es : List Edge) (u : ℕ) (vs : List ℕ) (t : ℕ) → Walks es u vs t → (v : ℕ) → (lineSum (λ (a b : ℕ). hit a v + hit b v) (u ∷ vs) + hit u v + hit t v) % 2 ≡ 0

@@ -1,13 +1,13 @@
 -- Floats that are not negative, by whole numbers: the key of a value is how many of the format's smallest units it is, with infinity at 2 ^ (emax + 1) as IEEE 754's
 -- rounding has it. Keys order such floats as `lt` does, and two floats with one key are one float. So what is claimed of their order is arithmetic.
-use mathlib.Core.Path.{_≡_, refl, sym, ap, _∙_, subst}
+use mathlib.Core.Path.{_≡_, refl, sym, ap, _∙_}
 use mathlib.Core.Bool.{Bool, true, false, not, _&&_}
 use Prim.Native.Nat.{ℕ, zero, suc, _+_, _-_, _*_, _/_, _%_, _^_, _≤_, _<_, zero-le}
 use native.Mathlib.Nat.{le-refl, le-trans, le-of-eq, le-of-lt, lt-of-not-le, not-le-of-lt, lt-of-mul-lt-mul-right, le-of-mul-le-mul-right, eq-of-mul-eq-mul-right, mul-assoc, mul-one, one-mul, mul-pos, mul-div-cancel, mul-le-mul-right, mul-lt-mul-of-pos-right, zero-mul}
 use native.Mathlib.Decide.{decLe}
 use native.Mathlib.Omega.{arith}
 use lib.IntN.{ℤ, pos, negsuc}
-use lib.Dec.{T, ltb, eqb, leb, eqb→eq, ltb→lt, leb→le, lt→ltb, lit<}
+use lib.Dec.{T, ltb, eqb, leb, eqb→eq, ltb→lt, leb→le, lit<}
 use borrow.Author.Tests.{lt-ltb, le-ltb}
 use lib.Pow.{pow-pos, pow-add, pow-lt}
 use lib.Ieee.{Float, nan, inf, fin, Format, prec, emax, low, up, down, size, fits, isNan, lt, toBits, ofBits}
@@ -99,11 +99,6 @@ key-top f nan p = zero-le
 key-top f (inf s) p = le-refl (overflow f)
 key-top f (fin s m e) p = le-of-lt (key-finite f s m e (p .fit))
 
-pub key-below-top : (f : Format) (x : Float) → T (fits f x) → T (finite x) → key f x < overflow f
-key-below-top f nan p t = absurd t
-key-below-top f (inf s) p t = absurd t
-key-below-top f (fin s m e) p t = key-finite f s m e p
-
 -- infinity too is a power of two times a number of few digits
 pub key-digits : (f : Format) (x : Float) → Nonneg f x → (m j : ℕ) × (m < 2 ^ prec f) × (key f x ≡ m * 2 ^ j)
 key-digits f nan p = absurd (p .sign)
@@ -121,17 +116,11 @@ cross→units a p b q u v l P Q h k c = le-of-mul-le-mul-right (omega (arith, ap
 units→cross : (a p b q u v l : ℕ) → 0 < l → u * p ≡ a * l → v * q ≡ b * l → u ≤ v → a * q ≤ b * p
 units→cross a p b q u v l L h k c = le-of-mul-le-mul-right (omega (arith, ap (λ (x : ℕ). x * q) h, ap (λ (x : ℕ). x * p) k, mul-le-mul-right (p * q) c)) L
 
-same-test : (a b : Bool) → (T a → T b) → (T b → T a) → a ≡ b
-same-test true true h k = refl
-same-test true false h k = absurd (h tt)
-same-test false true h k = absurd (k tt)
-same-test false false h k = refl
-
 ltb-units : (a p b q u v l : ℕ) → 0 < l → 0 < p → 0 < q → u * p ≡ a * l → v * q ≡ b * l → ltb (a * q) (b * p) ≡ ltb u v
-ltb-units a p b q u v l L P Q h k =
-    same-test (ltb (a * q) (b * p)) (ltb u v)
-    (λ t. lt→ltb u v (lt-of-not-le (λ c. not-le-of-lt (ltb→lt (a * q) (b * p) t) (units→cross b q a p v u l L k h c))))
-    (λ t. lt→ltb (a * q) (b * p) (lt-of-not-le (λ c. not-le-of-lt (ltb→lt u v t) (cross→units b q a p v u l Q P k h c))))
+ltb-units a p b q u v l L P Q h k = elim (decLe v u) [
+  | yes g ↦ le-ltb (a * q) (b * p) (units→cross b q a p v u l L k h g) ∙ sym (le-ltb u v g)
+  | no g ↦ lt-ltb (a * q) (b * p) (lt-of-not-le (λ c. g (cross→units b q a p v u l Q P k h c))) ∙ sym (lt-ltb u v (lt-of-not-le g))
+]
 
 module _ (f : Format) where
   pub lt-key : (x y : Float) → Nonneg f x → Nonneg f y → lt x y ≡ ltb (key f x) (key f y)
@@ -181,17 +170,7 @@ module _ (f : Format) where
       eq-of-mul-eq-mul-right (down e) (down-pos e) (key f (fin s m e) * c) (a * 2 ^ low f)
       (omega (arith, ap (λ (n : ℕ). n * c) (key-exact f s m e p), ap (λ (n : ℕ). n * 2 ^ low f) (v .1)))
 
-  pub value-sign : (x : Float) (a c : ℕ) → HasValue x false a c → T (nonneg x)
-  value-sign nan a c v = absurd v
-  value-sign (inf s) a c v = absurd v
-  value-sign (fin s m e) a c v = subst (λ (b : Bool). T (not b)) (sym (v .0)) tt
-
   pub value-finite : (x : Float) (a c : ℕ) → HasValue x false a c → T (finite x)
   value-finite nan a c v = absurd v
   value-finite (inf s) a c v = absurd v
   value-finite (fin s m e) a c v = tt
-
-  pub value-inj : (x y : Float) (a c : ℕ) → 0 < c → T (fits f x) → T (fits f y) → HasValue x false a c → HasValue y false a c → x ≡ y
-  value-inj x y a c C p q v w =
-      key-inj x y (record { fit = p; sign = value-sign x a c v }) (record { fit = q; sign = value-sign y a c w })
-      (eq-of-mul-eq-mul-right c C (key f x) (key f y) (key-value x a c p v ∙ sym (key-value y a c q w)))
