@@ -51,6 +51,19 @@ module _ {A : Type 0} where
     all-back [] ys a = a
     all-back (x ∷ xs) ys a = all-back xs ys (a .1)
 
+-- what holds of the images
+pub all-map : {A B : Type 0} (f : A → B) (P : B → Type 0) (xs : List A) → All (λ (x : A). P (f x)) xs → All P (map f xs)
+all-map f P [] a = tt
+all-map f P (x ∷ xs) a = (a .0, all-map f P xs (a .1))
+
+pub all-imp : {A : Type 0} (P Q : A → Type 0) → ((x : A) → P x → Q x) → (xs : List A) → All P xs → All Q xs
+all-imp P Q f [] a = tt
+all-imp P Q f (x ∷ xs) a = (f x (a .0), all-imp P Q f xs (a .1))
+
+pub all-both : {A : Type 0} (P Q : A → Type 0) (xs : List A) → All P xs → All Q xs → All (λ (x : A). P x × Q x) xs
+all-both P Q [] a b = tt
+all-both P Q (x ∷ xs) a b = ((a .0, b .0), all-both P Q xs (a .1) (b .1))
+
 -- ---- elements by their places
 
 -- an element read after `set` is the one set, or as before
@@ -66,16 +79,3 @@ pub getD-same : {A : Type 0} (n i : ℕ) (a : A) → getD (replicate n a) i a �
 getD-same zero i a = refl
 getD-same (suc n) zero a = refl
 getD-same (suc n) (suc i) a = getD-same n i a
-
--- what holds of the images
-pub all-map : {A B : Type 0} (f : A → B) (P : B → Type 0) (xs : List A) → All (λ (x : A). P (f x)) xs → All P (map f xs)
-all-map f P [] a = tt
-all-map f P (x ∷ xs) a = (a .0, all-map f P xs (a .1))
-
-pub all-imp : {A : Type 0} (P Q : A → Type 0) → ((x : A) → P x → Q x) → (xs : List A) → All P xs → All Q xs
-all-imp P Q f [] a = tt
-all-imp P Q f (x ∷ xs) a = (f x (a .0), all-imp P Q f xs (a .1))
-
-pub all-both : {A : Type 0} (P Q : A → Type 0) (xs : List A) → All P xs → All Q xs → All (λ (x : A). P x × Q x) xs
-all-both P Q [] a b = tt
-all-both P Q (x ∷ xs) a b = ((a .0, b .0), all-both P Q xs (a .1) (b .1))

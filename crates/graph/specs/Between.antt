@@ -1,5 +1,5 @@
 -- What lies between two nodes, counted by points, is what lies between them counted by node numbers; between two points that are not both nodes lies nothing.
-use mathlib.Core.Path.{_≡_, refl, _∙_}
+use mathlib.Core.Path.{_≡_, refl, ap₂, _∙_}
 use mathlib.Core.Logic.{_⊎_, inl, inr}
 use mathlib.Core.List.{List, [], _∷_, map}
 use mathlib.Core.Bool.{and-false}
@@ -10,7 +10,7 @@ use Rattle.drawing.specs.Drawing.{Point}
 use Rattle.drawing.specs.Members.{All}
 use Rattle.graph.specs.Graph.{nodeOf, pointAt}
 use Rattle.graph.specs.Degree.{hit}
-use Rattle.graph.specs.Count.{sumOver, stepSum, lineSum, joint, lies, stepsBetween, touches}
+use Rattle.graph.specs.Count.{sumOver, stepSum, lineSum, joint, lies, touches}
 use Rattle.graph.specs.Nodes.{IsNode, Numbered, is-node, by-number, no-node}
 
 -- ---- sums over the images of a list, element by element
@@ -48,44 +48,35 @@ module _ {A : Type 0} where
   line-zero [] = refl
   line-zero (x ∷ xs) = steps-zero x xs
 
--- ---- between two nodes
+-- ---- by points and by numbers
+
+-- where p and q are nodes, w counts of them what t counts of their numbers
+abbrev pub Agrees : List Point → (Point → Point → ℕ) → (ℕ → ℕ → ℕ) → Type 0
+Agrees ns w t = (p q : Point) → IsNode ns p → IsNode ns q → w p q ≡ t (nodeOf ns p) (nodeOf ns q)
+
+abbrev pub nothing : ℕ → ℕ → ℕ
+nothing a b = 0
 
 module _ (ns : List Point) (N : Numbered ns) where
-  pub lies-joint : (u v : ℕ) → u < length ns → v < length ns → (p q : Point) → IsNode ns p → IsNode ns q → lies (pointAt ns u) (pointAt ns v) p q ≡ joint u v (nodeOf ns p) (nodeOf ns q)
+  pub lies-joint : (u v : ℕ) → u < length ns → v < length ns → Agrees ns (lies (pointAt ns u) (pointAt ns v)) (joint u v)
   lies-joint u v hu hv p q i j = simp (by-number ns N p u i hu, by-number ns N q v j hv, by-number ns N p v i hv, by-number ns N q u j hu)
 
-  pub touches-hit : (u : ℕ) → u < length ns → (p q : Point) → IsNode ns p → IsNode ns q → touches (pointAt ns u) p q ≡ hit (nodeOf ns p) u + hit (nodeOf ns q) u
+  pub touches-hit : (u : ℕ) → u < length ns → Agrees ns (touches (pointAt ns u)) (λ (a b : ℕ). hit a u + hit b u)
   touches-hit u hu p q i j = simp (by-number ns N p u i hu, by-number ns N q u j hu)
 
-  -- steps of a line of nodes
-  pub steps-joint : (u v : ℕ) → u < length ns → v < length ns → (line : List ℕ) → All (λ (a : ℕ). a < length ns) line
-      → stepsBetween (pointAt ns u) (pointAt ns v) (map (pointAt ns) line) ≡ lineSum (joint u v) line
-  steps-joint u v hu hv =
-      line-map (pointAt ns) (lies (pointAt ns u) (pointAt ns v)) (joint u v) (λ (a : ℕ). a < length ns)
-      (λ a b ha hb. lies-joint u v hu hv (pointAt ns a) (pointAt ns b) (is-node ns N a ha) (is-node ns N b hb) ∙ simp (N a ha, N b hb))
-
-  pub steps-hit : (u : ℕ) → u < length ns → (line : List ℕ) → All (λ (a : ℕ). a < length ns) line
-      → lineSum (touches (pointAt ns u)) (map (pointAt ns) line) ≡ lineSum (λ (a b : ℕ). hit a u + hit b u) line
-  steps-hit u hu =
-      line-map (pointAt ns) (touches (pointAt ns u)) (λ (a b : ℕ). hit a u + hit b u) (λ (a : ℕ). a < length ns)
-      (λ a b ha hb. touches-hit u hu (pointAt ns a) (pointAt ns b) (is-node ns N a ha) (is-node ns N b hb) ∙ simp (N a ha, N b hb))
-
-  -- ---- where one of the two points is no node
-
-  pub lies-none : (p q : Point) → (length ns ≤ nodeOf ns p) ⊎ (length ns ≤ nodeOf ns q) → (a b : Point) → IsNode ns a → IsNode ns b → lies p q a b ≡ 0
+  -- where a point is no node
+  pub lies-none : (p q : Point) → (length ns ≤ nodeOf ns p) ⊎ (length ns ≤ nodeOf ns q) → Agrees ns (lies p q) nothing
   lies-none p q (inl h) a b i j = simp (no-node ns p a h i, no-node ns p b h j, and-false)
   lies-none p q (inr h) a b i j = simp (no-node ns q a h i, no-node ns q b h j, and-false)
 
-  pub touches-none : (p : Point) → length ns ≤ nodeOf ns p → (a b : Point) → IsNode ns a → IsNode ns b → touches p a b ≡ 0
+  pub touches-none : (p : Point) → length ns ≤ nodeOf ns p → Agrees ns (touches p) nothing
   touches-none p h a b i j = simp (no-node ns p a h i, no-node ns p b h j)
 
-  pub steps-none : (p q : Point) → (length ns ≤ nodeOf ns p) ⊎ (length ns ≤ nodeOf ns q) → (line : List ℕ) → All (λ (a : ℕ). a < length ns) line
-      → stepsBetween p q (map (pointAt ns) line) ≡ 0
-  steps-none p q h line a =
-      line-map (pointAt ns) (lies p q) (λ (a b : ℕ). 0) (λ (a : ℕ). a < length ns) (λ a b ha hb. lies-none p q h (pointAt ns a) (pointAt ns b) (is-node ns N a ha) (is-node ns N b hb)) line a
-      ∙ line-zero line
+  -- steps of a line of nodes
+  pub steps-agree : (w : Point → Point → ℕ) (t : ℕ → ℕ → ℕ) → Agrees ns w t → (line : List ℕ) → All (λ (a : ℕ). a < length ns) line → lineSum w (map (pointAt ns) line) ≡ lineSum t line
+  steps-agree w t e =
+      line-map (pointAt ns) w t (λ (a : ℕ). a < length ns)
+      (λ a b ha hb. e (pointAt ns a) (pointAt ns b) (is-node ns N a ha) (is-node ns N b hb) ∙ ap₂ t (N a ha) (N b hb))
 
-  pub steps-untouched : (p : Point) → length ns ≤ nodeOf ns p → (line : List ℕ) → All (λ (a : ℕ). a < length ns) line → lineSum (touches p) (map (pointAt ns) line) ≡ 0
-  steps-untouched p h line a =
-      line-map (pointAt ns) (touches p) (λ (a b : ℕ). 0) (λ (a : ℕ). a < length ns) (λ a b ha hb. touches-none p h (pointAt ns a) (pointAt ns b) (is-node ns N a ha) (is-node ns N b hb)) line a
-      ∙ line-zero line
+  pub steps-none : (w : Point → Point → ℕ) → Agrees ns w nothing → (line : List ℕ) → All (λ (a : ℕ). a < length ns) line → lineSum w (map (pointAt ns) line) ≡ 0
+  steps-none w e line a = steps-agree w nothing e line a ∙ line-zero line

@@ -18,12 +18,12 @@ use Rattle.drawing.specs.OnGrid.{OnGrid, AtEnds}
 use Rattle.graph.specs.Chain.{Stroke, squared, strokesOf, usesOf}
 use Rattle.graph.specs.Graph.{Edge, nodeOf, pointAt, firstUses, edgeOf, buildGraph}
 use Rattle.graph.specs.Degree.{hit, degree}
-use Rattle.graph.specs.Count.{joint, joining, lies, touches, strokesBetween, strokesAt}
+use Rattle.graph.specs.Count.{sumOver, joint, joining, lies, touches, strokesBetween, strokesAt}
 use Rattle.graph.specs.Ways.{Inside}
 use Rattle.graph.specs.Sums.{degree-sum}
 use Rattle.graph.specs.Nodes.{IsNode, Numbered, node-point, uses-numbered, uses-nodes, uses-all}
 use Rattle.graph.specs.Strokes.{Between, strokes-between, uses-of-all}
-use Rattle.graph.specs.Between.{sum-none, sum-map, lies-joint, touches-hit, lies-none, touches-none}
+use Rattle.graph.specs.Between.{sum-none, sum-map, Agrees, nothing, lies-joint, touches-hit, lies-none, touches-none}
 
 nodes-are : (d : Drawing) → buildGraph d .nodes ≡ firstUses [] (usesOf d)
 unfolding buildGraph
@@ -61,35 +61,33 @@ module _ (d : Drawing) where
 
   -- ---- counts
 
+  edges-agree : (w : Point → Point → ℕ) (t : ℕ → ℕ → ℕ) → Agrees (buildGraph d .nodes) w t
+      → sumOver (λ (e : Edge). t (e .a) (e .b)) (buildGraph d .edges) ≡ sumOver (λ (s : Stroke). w (s .from) (s .to)) (strokesOf d)
+  unfolding edgeOf
+  edges-agree w t e =
+      let ns = buildGraph d .nodes in
+      rw (edges-are d) (sum-map (edgeOf ns) (λ (e : Edge). t (e .a) (e .b)) (λ (s : Stroke). w (s .from) (s .to)) (strokesOf d)
+      (all-imp (Between (IsNode ns)) _ (λ s b. sym (e (s .from) (s .to) (b .from) (b .to))) (strokesOf d) built-strokes))
+
   pub built-joining : (u v : ℕ) → u < length (buildGraph d .nodes) → v < length (buildGraph d .nodes)
       → joining u v (buildGraph d .edges) ≡ strokesBetween (pointAt (buildGraph d .nodes) u) (pointAt (buildGraph d .nodes) v) (strokesOf d)
-  unfolding edgeOf
-  built-joining u v hu hv =
-      let ns = buildGraph d .nodes in
-      rw (edges-are d) (sum-map (edgeOf ns) (λ (e : Edge). joint u v (e .a) (e .b)) (λ (s : Stroke). lies (pointAt ns u) (pointAt ns v) (s .from) (s .to)) (strokesOf d)
-      (all-imp (Between (IsNode ns)) _ (λ s b. sym (lies-joint ns built-numbered u v hu hv (s .from) (s .to) (b .from) (b .to))) (strokesOf d) built-strokes))
+  built-joining u v hu hv = edges-agree _ (joint u v) (lies-joint (buildGraph d .nodes) built-numbered u v hu hv)
 
   pub built-degree : (v : ℕ) → v < length (buildGraph d .nodes) → degree (buildGraph d .edges) v ≡ strokesAt (pointAt (buildGraph d .nodes) v) (strokesOf d)
-  unfolding edgeOf
-  built-degree v hv =
-      let ns = buildGraph d .nodes in
-      degree-sum (buildGraph d .edges) v
-      ∙ rw (edges-are d) (sum-map (edgeOf ns) (λ (e : Edge). hit (e .a) v + hit (e .b) v) (λ (s : Stroke). touches (pointAt ns v) (s .from) (s .to)) (strokesOf d)
-      (all-imp (Between (IsNode ns)) _ (λ s b. sym (touches-hit ns built-numbered v hv (s .from) (s .to) (b .from) (b .to))) (strokesOf d) built-strokes))
+  built-degree v hv = degree-sum (buildGraph d .edges) v ∙ edges-agree _ (λ (a b : ℕ). hit a v + hit b v) (touches-hit (buildGraph d .nodes) built-numbered v hv)
 
   -- nothing is drawn at a point that is no node
+  strokes-none : (w : Point → Point → ℕ) → Agrees (buildGraph d .nodes) w nothing → sumOver (λ (s : Stroke). w (s .from) (s .to)) (strokesOf d) ≡ 0
+  strokes-none w e =
+      sum-none (λ (s : Stroke). w (s .from) (s .to)) (strokesOf d)
+      (all-imp (Between (IsNode (buildGraph d .nodes))) _ (λ s b. e (s .from) (s .to) (b .from) (b .to)) (strokesOf d) built-strokes)
+
   pub built-none : (p q : Point) → (length (buildGraph d .nodes) ≤ nodeOf (buildGraph d .nodes) p) ⊎ (length (buildGraph d .nodes) ≤ nodeOf (buildGraph d .nodes) q)
       → strokesBetween p q (strokesOf d) ≡ 0
-  built-none p q h =
-      let ns = buildGraph d .nodes in
-      sum-none (λ (s : Stroke). lies p q (s .from) (s .to)) (strokesOf d)
-      (all-imp (Between (IsNode ns)) _ (λ s b. lies-none ns built-numbered p q h (s .from) (s .to) (b .from) (b .to)) (strokesOf d) built-strokes)
+  built-none p q h = strokes-none (lies p q) (lies-none (buildGraph d .nodes) built-numbered p q h)
 
   pub built-untouched : (p : Point) → length (buildGraph d .nodes) ≤ nodeOf (buildGraph d .nodes) p → strokesAt p (strokesOf d) ≡ 0
-  built-untouched p h =
-      let ns = buildGraph d .nodes in
-      sum-none (λ (s : Stroke). touches p (s .from) (s .to)) (strokesOf d)
-      (all-imp (Between (IsNode ns)) _ (λ s b. touches-none ns built-numbered p h (s .from) (s .to) (b .from) (b .to)) (strokesOf d) built-strokes)
+  built-untouched p h = strokes-none (touches p) (touches-none (buildGraph d .nodes) built-numbered p h)
 
 -- ---- weights
 

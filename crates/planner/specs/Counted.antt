@@ -22,7 +22,7 @@ use Rattle.graph.specs.Sums.{joins-joint, other-way}
 use Rattle.graph.specs.Connected.{joined-more, reach-more}
 use Rattle.graph.specs.Strokes.{lies-own}
 use Rattle.graph.specs.Nodes.{node-point}
-use Rattle.graph.specs.Between.{sum-none, sum-map, steps-joint, steps-hit, steps-none, steps-untouched}
+use Rattle.graph.specs.Between.{sum-none, sum-map, Agrees, nothing, lies-joint, touches-hit, lies-none, touches-none, steps-agree, steps-none}
 use Rattle.graph.specs.Built.{built-numbered, built-strokes, built-joining, built-degree, built-none, built-untouched}
 use Rattle.repair.specs.Repair.{Repair}
 use Rattle.repair.specs.Repaired.{Repaired}
@@ -163,15 +163,21 @@ module _ (d : Drawing) (r : Repair) (F : Repaired (buildGraph d) (d .settings) r
       ]
     ]
 
-    copies-joint : (u v : ℕ) → u < length nodes → v < length nodes → copies d r (pointAt nodes u) (pointAt nodes v) ≡ sumOver (λ (way : List ℕ). lineSum (joint u v) way) (r .retraces)
-    copies-joint u v hu hv =
+    copies-agree : (w : Point → Point → ℕ) (t : ℕ → ℕ → ℕ) → Agrees nodes w t → sumOver (λ (way : List Point). lineSum w way) (ways d r) ≡ sumOver (λ (way : List ℕ). lineSum t way) (r .retraces)
+    copies-agree w t e =
         sum-map (λ (way : List ℕ). map (pointAt nodes) way) _ _ (r .retraces)
-        (all-imp _ _ (λ way a. steps-joint nodes (built-numbered d) u v hu hv way a) (r .retraces) (F .copied .ways-inside))
+        (all-imp _ _ (λ way a. steps-agree nodes (built-numbered d) w t e way a) (r .retraces) (F .copied .ways-inside))
+
+    copies-joint : (u v : ℕ) → u < length nodes → v < length nodes → copies d r (pointAt nodes u) (pointAt nodes v) ≡ sumOver (λ (way : List ℕ). lineSum (joint u v) way) (r .retraces)
+    copies-joint u v hu hv = copies-agree _ (joint u v) (lies-joint nodes (built-numbered d) u v hu hv)
+
+    copies-none : (w : Point → Point → ℕ) → Agrees nodes w nothing → sumOver (λ (way : List Point). lineSum w way) (ways d r) ≡ 0
+    copies-none w e =
+        sum-none (λ (way : List Point). lineSum w way) (ways d r)
+        (all-map (λ (way : List ℕ). map (pointAt nodes) way) _ (r .retraces) (all-imp _ _ (λ way a. steps-none nodes (built-numbered d) w e way a) (r .retraces) (F .copied .ways-inside)))
 
     no-copies : (p q : Point) → (length nodes ≤ nodeOf nodes p) ⊎ (length nodes ≤ nodeOf nodes q) → copies d r p q ≡ 0
-    no-copies p q h =
-        sum-none (λ (way : List Point). stepsBetween p q way) (ways d r)
-        (all-map (λ (way : List ℕ). map (pointAt nodes) way) _ (r .retraces) (all-imp _ _ (λ way a. steps-none nodes (built-numbered d) p q h way a) (r .retraces) (F .copied .ways-inside)))
+    no-copies p q h = copies-none (lies p q) (lies-none nodes (built-numbered d) p q h)
 
     -- the first sentence of demand 3
     pub steps-counted : (p q : Point) → stepsBetween p q (line d r) ≡ strokesBetween p q (strokesOf d) + copies d r p q
@@ -179,12 +185,12 @@ module _ (d : Drawing) (r : Repair) (F : Repaired (buildGraph d) (d .settings) r
     steps-counted p q = orient-sum (lies p q) (lies-comm p q) (d .settings) (map (pointAt nodes) (nodeLine d r)) ∙ go (placed p q)
       where
         go : Place p q → stepsBetween p q (map (pointAt nodes) (nodeLine d r)) ≡ strokesBetween p q (strokesOf d) + copies d r p q
-        go (inr h) = omega (arith, steps-none nodes (built-numbered d) p q h (nodeLine d r) (line-steps .within), built-none d p q h, no-copies p q h)
+        go (inr h) = omega (arith, steps-none nodes (built-numbered d) (lies p q) (lies-none nodes (built-numbered d) p q h) (nodeLine d r) (line-steps .within), built-none d p q h, no-copies p q h)
         go (inl w) =
             rw (w .4, w .5)
             (omega (
               arith,
-              steps-joint nodes (built-numbered d) (w .0) (w .1) (w .2) (w .3) (nodeLine d r) (line-steps .within),
+              steps-agree nodes (built-numbered d) _ (joint (w .0) (w .1)) (lies-joint nodes (built-numbered d) (w .0) (w .1) (w .2) (w .3)) (nodeLine d r) (line-steps .within),
               line-steps .counts (w .0) (w .1),
               F .copied .joining-is (w .0) (w .1),
               built-joining d (w .0) (w .1) (w .2) (w .3),
@@ -222,23 +228,11 @@ module _ (d : Drawing) (r : Repair) (F : Repaired (buildGraph d) (d .settings) r
     -- at a node as many ends of pieces, links and copies as its degree after repair
     pub left-degree : (u : ℕ) → u < length nodes → strokesAt (pointAt nodes u) (strokesOf d) + copiesTouching d r (pointAt nodes u) ≡ degree (r .edges) u
     left-degree u hu =
-        omega (
-          arith,
-          built-degree d u hu,
-          F .copied .degree-is u,
-          sum-map (λ (way : List ℕ). map (pointAt nodes) way) (λ (way : List Point). lineSum (touches (pointAt nodes u)) way) (λ (way : List ℕ). lineSum (λ (a b : ℕ). hit a u + hit b u) way) (r .retraces)
-              (all-imp _ _ (λ way a. steps-hit nodes (built-numbered d) u hu way a) (r .retraces) (F .copied .ways-inside)),
-        )
+        omega (arith, built-degree d u hu, F .copied .degree-is u, copies-agree _ (λ (a b : ℕ). hit a u + hit b u) (touches-hit nodes (built-numbered d) u hu))
 
     -- none at a point that is no node
     pub left-untouched : (p : Point) → length nodes ≤ nodeOf nodes p → strokesAt p (strokesOf d) + copiesTouching d r p ≡ 0
-    left-untouched p h =
-        omega (
-          arith,
-          built-untouched d p h,
-          sum-none (λ (way : List Point). lineSum (touches p) way) (ways d r)
-              (all-map (λ (way : List ℕ). map (pointAt nodes) way) _ (r .retraces) (all-imp _ _ (λ way a. steps-untouched nodes (built-numbered d) p h way a) (r .retraces) (F .copied .ways-inside))),
-        )
+    left-untouched p h = omega (arith, built-untouched d p h, copies-none (touches p) (touches-none nodes (built-numbered d) p h))
 
     -- the line has one point more than there are edges, at most
     pub line-few : length (line d r) ≤ suc (length (r .edges))
