@@ -32,6 +32,24 @@ nonneg-number f nan p = absurd (p .sign)
 nonneg-number f (inf s) p = tt
 nonneg-number f (fin s m e) p = tt
 
+-- what holds of infinity and of the finite ones holds of all, and so of any two
+module _ (f : Format) where
+  each : (P : Float → Type 0) → P (inf false) → ((m : ℕ) (e : ℤ) → T (fits f (fin false m e)) → P (fin false m e)) → (x : Float) → Nonneg f x → P x
+  each P top whole nan p = absurd (p .sign)
+  each P top whole (inf true) p = absurd (p .sign)
+  each P top whole (inf false) p = top
+  each P top whole (fin true m e) p = absurd (p .sign)
+  each P top whole (fin false m e) p = whole m e (p .fit)
+
+  pub any-two : (P : Float → Float → Type 0)
+      → P (inf false) (inf false)
+      → ((n : ℕ) (d : ℤ) → T (fits f (fin false n d)) → P (inf false) (fin false n d))
+      → ((m : ℕ) (e : ℤ) → T (fits f (fin false m e)) → P (fin false m e) (inf false))
+      → ((m : ℕ) (e : ℤ) (n : ℕ) (d : ℤ) → T (fits f (fin false m e)) → T (fits f (fin false n d)) → P (fin false m e) (fin false n d))
+      → (x y : Float) → Nonneg f x → Nonneg f y → P x y
+  any-two P tops first second wholes x y p q =
+      each (λ (x : Float). P x y) (each (P (inf false)) tops first y q) (λ m e h. each (P (fin false m e)) (second m e h) (λ n d k. wholes m e n d h k) y q) x p
+
 -- how many times 2 ^ -low the value is in size, its sign left out
 abbrev pub key : Format → Float → ℕ
 key f nan = 0
@@ -125,21 +143,13 @@ ltb-units a p b q u v l L P Q h k = elim (decLe v u) [
 module _ (f : Format) where
   pub lt-key : (x y : Float) → Nonneg f x → Nonneg f y → lt x y ≡ ltb (key f x) (key f y)
   unfolding lt
-  lt-key nan y p q = absurd (p .sign)
-  lt-key (inf true) y p q = absurd (p .sign)
-  lt-key (fin true m e) y p q = absurd (p .sign)
-  lt-key (inf false) nan p q = absurd (q .sign)
-  lt-key (inf false) (inf true) p q = absurd (q .sign)
-  lt-key (inf false) (inf false) p q = sym (le-ltb (overflow f) (overflow f) (le-refl (overflow f)))
-  lt-key (inf false) (fin true n d) p q = absurd (q .sign)
-  lt-key (inf false) (fin false n d) p q = sym (le-ltb (overflow f) (key f (fin false n d)) (le-of-lt (key-finite f false n d (q .fit))))
-  lt-key (fin false m e) nan p q = absurd (q .sign)
-  lt-key (fin false m e) (inf true) p q = absurd (q .sign)
-  lt-key (fin false m e) (inf false) p q = sym (lt-ltb (key f (fin false m e)) (overflow f) (key-finite f false m e (p .fit)))
-  lt-key (fin false m e) (fin true n d) p q = absurd (q .sign)
-  lt-key (fin false m e) (fin false n d) p q =
-      ltb-units (m * up e) (down e) (n * up d) (down d) (key f (fin false m e)) (key f (fin false n d)) (2 ^ low f) (pow-pos (low f)) (down-pos e) (down-pos d)
-      (key-exact f false m e (p .fit)) (key-exact f false n d (q .fit))
+  lt-key =
+      any-two f (λ (x y : Float). lt x y ≡ ltb (key f x) (key f y))
+      (sym (le-ltb (overflow f) (overflow f) (le-refl (overflow f))))
+      (λ n d k. sym (le-ltb (overflow f) (key f (fin false n d)) (le-of-lt (key-finite f false n d k))))
+      (λ m e h. sym (lt-ltb (key f (fin false m e)) (overflow f) (key-finite f false m e h)))
+      (λ m e n d h k. ltb-units (m * up e) (down e) (n * up d) (down d) (key f (fin false m e)) (key f (fin false n d)) (2 ^ low f) (pow-pos (low f)) (down-pos e) (down-pos d)
+      (key-exact f false m e h) (key-exact f false n d k))
 
   -- a bit pattern is made from the key
   same-bits : (m : ℕ) (e : ℤ) (n : ℕ) (d : ℤ) → key f (fin false m e) ≡ key f (fin false n d) → toBits f (fin false m e) ≡ toBits f (fin false n d)
@@ -147,20 +157,12 @@ module _ (f : Format) where
   same-bits m e n d k = ap (λ (w : ℕ). 0 + (size w - prec f) * 2 ^ (prec f - 1) + w / 2 ^ (size w - prec f)) k
 
   pub key-inj : (x y : Float) → Nonneg f x → Nonneg f y → key f x ≡ key f y → x ≡ y
-  key-inj nan y p q h = absurd (p .sign)
-  key-inj (inf true) y p q h = absurd (p .sign)
-  key-inj (fin true m e) y p q h = absurd (p .sign)
-  key-inj (inf false) nan p q h = absurd (q .sign)
-  key-inj (inf false) (inf true) p q h = absurd (q .sign)
-  key-inj (inf false) (inf false) p q h = refl
-  key-inj (inf false) (fin true n d) p q h = absurd (q .sign)
-  key-inj (inf false) (fin false n d) p q h = absurd (not-le-of-lt (key-finite f false n d (q .fit)) (le-of-eq h))
-  key-inj (fin false m e) nan p q h = absurd (q .sign)
-  key-inj (fin false m e) (inf true) p q h = absurd (q .sign)
-  key-inj (fin false m e) (inf false) p q h = absurd (not-le-of-lt (key-finite f false m e (p .fit)) (le-of-eq (sym h)))
-  key-inj (fin false m e) (fin true n d) p q h = absurd (q .sign)
-  key-inj (fin false m e) (fin false n d) p q h =
-      sym (ofBits-toBits f (fin false m e) (p .fit)) ∙ ap (λ (b : ℕ). ofBits f b) (same-bits m e n d h) ∙ ofBits-toBits f (fin false n d) (q .fit)
+  key-inj =
+      any-two f (λ (x y : Float). key f x ≡ key f y → x ≡ y)
+      (λ t. refl)
+      (λ n d k t. absurd (not-le-of-lt (key-finite f false n d k) (le-of-eq t)))
+      (λ m e h t. absurd (not-le-of-lt (key-finite f false m e h) (le-of-eq (sym t))))
+      (λ m e n d h k t. sym (ofBits-toBits f (fin false m e) h) ∙ ap (λ (b : ℕ). ofBits f b) (same-bits m e n d t) ∙ ofBits-toBits f (fin false n d) k)
 
   -- ---- values as fractions: x is a / c, so its key is that many units
   pub key-value : (x : Float) (a c : ℕ) → T (fits f x) → HasValue x false a c → key f x * c ≡ a * 2 ^ low f

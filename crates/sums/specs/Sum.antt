@@ -14,7 +14,7 @@ use lib.Ieee.Fits.{and-l, down-pos, add-fits, round-fits, round-is}
 use lib.Ieee.Exact.{HasValue, round-exact}
 use lib.Ieee.Order.{round-mono}
 use lib.Ieee.Scale.{overflow, round-same}
-use Rattle.sums.specs.Key.{Nonneg, nonneg, key, key-exact, key-finite, key-top, key-digits, key-inj, key-value, cross→units}
+use Rattle.sums.specs.Key.{Nonneg, nonneg, any-two, key, key-exact, key-finite, key-top, key-digits, key-inj, key-value, cross→units}
 
 -- u units, rounded
 abbrev pub rounded : Format → ℕ → Float
@@ -48,18 +48,13 @@ module _ (f : Format) where
 
   le→key : (x y : Float) → Nonneg f x → Nonneg f y → T (le x y) → key f x ≤ key f y
   unfolding le
-  le→key nan y p q h = absurd (p .sign)
-  le→key (inf true) y p q h = absurd (p .sign)
-  le→key (fin true m e) y p q h = absurd (p .sign)
-  le→key (inf false) nan p q h = absurd (q .sign)
-  le→key (inf false) (inf t) p q h = le-refl (overflow f)
-  le→key (inf false) (fin t n d) p q h = absurd h
-  le→key (fin false m e) nan p q h = absurd (q .sign)
-  le→key (fin false m e) (inf t) p q h = le-of-lt (key-finite f false m e (p .fit))
-  le→key (fin false m e) (fin true n d) p q h = absurd (q .sign)
-  le→key (fin false m e) (fin false n d) p q h =
-      cross→units (m * up e) (down e) (n * up d) (down d) (key f (fin false m e)) (key f (fin false n d)) (2 ^ low f) (down-pos e) (down-pos d)
-      (key-exact f false m e (p .fit)) (key-exact f false n d (q .fit)) (lt-or-eq (m * up e * down d) (n * up d * down e) h)
+  le→key =
+      any-two f (λ (x y : Float). T (le x y) → key f x ≤ key f y)
+      (λ t. le-refl (overflow f))
+      (λ n d k t. absurd t)
+      (λ m e h t. le-of-lt (key-finite f false m e h))
+      (λ m e n d h k t. cross→units (m * up e) (down e) (n * up d) (down d) (key f (fin false m e)) (key f (fin false n d)) (2 ^ low f) (down-pos e) (down-pos d)
+      (key-exact f false m e h) (key-exact f false n d k) (lt-or-eq (m * up e * down d) (n * up d * down e) t))
 
   pub round-key : (u v : ℕ) → u ≤ v → key f (rounded f u) ≤ key f (rounded f v)
   round-key u v h =
@@ -88,17 +83,9 @@ module _ (f : Format) where
   -- ---- sums
   add-sign : (x y : Float) → Nonneg f x → Nonneg f y → T (nonneg (add f x y))
   unfolding add
-  add-sign nan y p q = absurd (p .sign)
-  add-sign (inf true) y p q = absurd (p .sign)
-  add-sign (fin true m e) y p q = absurd (p .sign)
-  add-sign (inf false) nan p q = absurd (q .sign)
-  add-sign (inf false) (inf true) p q = absurd (q .sign)
-  add-sign (inf false) (inf false) p q = tt
-  add-sign (inf false) (fin t n d) p q = tt
-  add-sign (fin false m e) nan p q = absurd (q .sign)
-  add-sign (fin false m e) (inf t) p q = q .sign
-  add-sign (fin false m e) (fin true n d) p q = absurd (q .sign)
-  add-sign (fin false m e) (fin false n d) p q = round-nonneg (m * up e * down d + n * up d * down e) (down e * down d) .sign
+  add-sign =
+      any-two f (λ (x y : Float). T (nonneg (add f x y))) tt (λ n d k. tt) (λ m e h. tt)
+      (λ m e n d h k. round-nonneg (m * up e * down d + n * up d * down e) (down e * down d) .sign)
 
   pub add-nonneg : (x y : Float) → Nonneg f x → Nonneg f y → Nonneg f (add f x y)
   add-nonneg x y p q = record { fit = add-fits f x y; sign = add-sign x y p q }
@@ -108,22 +95,16 @@ module _ (f : Format) where
 
   pub add-key : (x y : Float) → Nonneg f x → Nonneg f y → key f (add f x y) ≡ key f (rounded f (key f x + key f y))
   unfolding add
-  add-key nan y p q = absurd (p .sign)
-  add-key (inf true) y p q = absurd (p .sign)
-  add-key (fin true m e) y p q = absurd (p .sign)
-  add-key (inf false) nan p q = absurd (q .sign)
-  add-key (inf false) (inf true) p q = absurd (q .sign)
-  add-key (inf false) (inf false) p q = sym (round-overflow (overflow f + overflow f) (omega arith))
-  add-key (inf false) (fin t n d) p q = sym (round-overflow (overflow f + key f (fin t n d)) (omega arith))
-  add-key (fin false m e) nan p q = absurd (q .sign)
-  add-key (fin false m e) (inf true) p q = absurd (q .sign)
-  add-key (fin false m e) (inf false) p q = sym (round-overflow (key f (fin false m e) + overflow f) (omega arith))
-  add-key (fin false m e) (fin true n d) p q = absurd (q .sign)
-  add-key (fin false m e) (fin false n d) p q =
+  add-key =
+      any-two f (λ (x y : Float). key f (add f x y) ≡ key f (rounded f (key f x + key f y)))
+      (sym (round-overflow (overflow f + overflow f) (omega arith)))
+      (λ n d k. sym (round-overflow (overflow f + key f (fin false n d)) (omega arith)))
+      (λ m e h. sym (round-overflow (key f (fin false m e) + overflow f) (omega arith)))
+      (λ m e n d h k.
       ap (λ (z : Float). key f z)
       (round-same f false (m * up e * down d + n * up d * down e) (down e * down d) (key f (fin false m e) + key f (fin false n d)) (2 ^ low f)
       (mul-pos (down-pos e) (down-pos d)) (pow-pos (low f))
-      (sum-units (m * up e) (down e) (n * up d) (down d) (key f (fin false m e)) (key f (fin false n d)) (2 ^ low f) (key-exact f false m e (p .fit)) (key-exact f false n d (q .fit))))
+      (sum-units (m * up e) (down e) (n * up d) (down d) (key f (fin false m e)) (key f (fin false n d)) (2 ^ low f) (key-exact f false m e h) (key-exact f false n d k))))
 
   pub add-commutes : (x y : Float) → Nonneg f x → Nonneg f y → add f x y ≡ add f y x
   add-commutes x y p q =
