@@ -5,24 +5,12 @@ use mathlib.Core.Path.{_≡_, refl, ap, ap₂}
 use mathlib.Core.Logic.{_⊎_, inl, inr}
 use mathlib.Core.List.{List, [], _∷_}
 use mathlib.Core.Bool.{Bool, true, false}
-use lib.Dec.{eqb}
 use borrow.Author.Tests.{eqb-true, eqb-false}
 use lib.ListN.{length}
 use Rattle.graph.specs.Graph.{Edge}
-use Rattle.graph.specs.Degree.{one, hit, degree, isOdd, oddFrom, oddNodes}
+use Rattle.graph.specs.Degree.{hit, degree, isOdd, oddFrom, oddNodes}
 use Rattle.graph.specs.Ways.{Inside}
-use Rattle.graph.specs.Sums.{hit-other}
-
--- u is v and counts once, or is another and does not count
-abbrev pub HitCases : ℕ → ℕ → Type 0
-HitCases u v = ((u ≡ v) × (hit u v ≡ 1)) ⊎ ((u ≡ v → ⊥) × (hit u v ≡ 0))
-
-pub hit-cases : (u v : ℕ) → HitCases u v
-hit-cases u v = go (eqb u v) refl
-  where
-    go : (t : Bool) → eqb u v ≡ t → HitCases u v
-    go true e = inl (eqb-true u v e, ap one e)
-    go false e = inr (eqb-false u v e, ap one e)
+use Rattle.graph.specs.Sums.{hit-other, HitCases, hit-cases}
 
 -- a weight summed over the n nodes from the node v on
 unfoldable pub sumFrom : (ℕ → ℕ) → ℕ → ℕ → ℕ

@@ -7,9 +7,9 @@ use mathlib.Core.List.{List, [], _∷_}
 use lib.ListN.{length}
 use Rattle.graph.specs.Graph.{Edge}
 use Rattle.graph.specs.Degree.{hit, degree, oddFrom, oddNodes}
-use Rattle.graph.specs.Sums.{hit-other}
+use Rattle.graph.specs.Sums.{hit-other, HitCases, hit-cases}
 use Rattle.graph.specs.Odd.{oddNodes-ascends}
-use Rattle.graph.specs.Handshake.{HitCases, hit-cases, OddStep, odd-step}
+use Rattle.graph.specs.Handshake.{OddStep, odd-step}
 
 -- how often v stands in a list
 unfoldable pub count : ℕ → List ℕ → ℕ

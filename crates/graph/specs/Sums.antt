@@ -1,13 +1,13 @@
 -- Laws of the sums over edges: what one edge gives to a degree or to the edges between two nodes, and sums over two lists.
 use mathlib.Core.Path.{_≡_, refl, sym, ap, ap₂, _∙_}
-use mathlib.Core.Logic.{inl, inr}
+use mathlib.Core.Logic.{_⊎_, inl, inr}
 use mathlib.Core.List.{List, [], _∷_, _++_}
 use mathlib.Core.Bool.{Bool, true, false, _&&_, _||_, or-comm, and-comm}
-use Prim.Native.Nat.{ℕ, _+_, _≤_, _<_, zero-le}
-use native.Mathlib.Nat.{le-refl, not-suc-le-zero, zero-add}
+use Prim.Native.Nat.{ℕ, _+_, _≤_, _<_}
+use native.Mathlib.Nat.{zero-add}
 use native.Mathlib.Omega.{arith}
 use lib.Dec.{eqb}
-use borrow.Author.Tests.{eqb-true, eq-eqb, ne-eqb}
+use borrow.Author.Tests.{eqb-true, eqb-false, eq-eqb, ne-eqb}
 use Rattle.graph.specs.Graph.{Edge}
 use Rattle.graph.specs.Degree.{one, hit, degree}
 use Rattle.graph.specs.Count.{sumOver, joint}
@@ -21,19 +21,22 @@ hit-same u = ap one (eq-eqb u u refl)
 pub hit-other : (u v : ℕ) → (u ≡ v → ⊥) → hit u v ≡ 0
 hit-other u v h = ap one (ne-eqb u v h)
 
-pub hit-le : (u v : ℕ) → hit u v ≤ 1
-hit-le u v = go (eqb u v)
+-- u is v and counts once, or is another and does not count
+abbrev pub HitCases : ℕ → ℕ → Type 0
+HitCases u v = ((u ≡ v) × (hit u v ≡ 1)) ⊎ ((u ≡ v → ⊥) × (hit u v ≡ 0))
+
+pub hit-cases : (u v : ℕ) → HitCases u v
+hit-cases u v = go (eqb u v) refl
   where
-    go : (t : Bool) → one t ≤ 1
-    go true = le-refl 1
-    go false = zero-le
+    go : (t : Bool) → eqb u v ≡ t → HitCases u v
+    go true e = inl (eqb-true u v e, ap one e)
+    go false e = inr (eqb-false u v e, ap one e)
+
+pub hit-le : (u v : ℕ) → hit u v ≤ 1
+hit-le u v = elim (hit-cases u v) [ inl p ↦ omega (arith, p .1) | inr p ↦ omega (arith, p .1) ]
 
 pub hit-eq : (u v : ℕ) → 0 < hit u v → u ≡ v
-hit-eq u v h = go (eqb u v) refl h
-  where
-    go : (t : Bool) → eqb u v ≡ t → 0 < one t → u ≡ v
-    go true e p = eqb-true u v e
-    go false e p = absurd (not-suc-le-zero p)
+hit-eq u v h = elim (hit-cases u v) [ inl p ↦ p .0 | inr p ↦ absurd (omega (arith, p .1)) ]
 
 -- an edge between u and w counts for the degrees of u and of w
 pub joins-hit : (e : Edge) (u w v : ℕ) → Joins e u w → hit (e .a) v + hit (e .b) v ≡ hit u v + hit w v

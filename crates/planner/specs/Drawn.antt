@@ -1,5 +1,5 @@
--- The graph of a file's drawing, in the words of document 01: edges between two nodes are the pieces and links between their points, and nothing is drawn at a point that is no node.
-use mathlib.Core.Path.{_≡_, refl}
+-- What a file draws, in the words of document 01; and what holds of its graph whatever is drawn.
+use mathlib.Core.Path.{_≡_}
 use mathlib.Core.List.{List}
 use Prim.Native.Nat.{ℕ, _+_, _^_, _<_}
 use lib.ListN.{length}
@@ -11,7 +11,7 @@ use Rattle.drawing.specs.Read.{recordsOf}
 use Rattle.drawing.specs.OnGrid.{OnGrid, lines-on, links-on}
 use Rattle.drawing.specs.Accepted.{Fits, counts-fit}
 use Rattle.graph.specs.Chain.{Stroke, piecesOf, linksOf, strokesOf}
-use Rattle.graph.specs.Graph.{Edge, pointAt, buildGraph}
+use Rattle.graph.specs.Graph.{Edge, pointAt}
 use Rattle.graph.specs.Count.{lies, touches, strokesBetween, strokesAt}
 use Rattle.graph.specs.Sums.{sumOver-append}
 use Rattle.graph.specs.Built.{built-on, built-weights}
@@ -20,10 +20,6 @@ use Rattle.planner.specs.Plan.{drawingIn, graphIn}
 use Rattle.planner.specs.Words.{piecesBetween, linksBetween, drawnAt}
 
 module _ (file : List ℕ) where
-  graph-is : graphIn file ≡ buildGraph (drawingIn file)
-  unfolding graphIn
-  graph-is = refl
-
   pub drawn-between : (p q : Point) → strokesBetween p q (strokesOf (drawingIn file)) ≡ piecesBetween p q file + linksBetween p q file
   unfolding piecesBetween linksBetween
   drawn-between p q = sumOver-append (λ (s : Stroke). lies p q (s .from) (s .to)) (piecesOf (drawingIn file)) (linksOf (drawingIn file))
@@ -35,14 +31,14 @@ module _ (file : List ℕ) where
   -- ---- whatever the file, nodes are on the grid and no weight is negative
 
   pub graph-on : (v : ℕ) → OnGrid (pointAt (graphIn file .nodes) v)
-  unfolding drawingIn
-  graph-on = rw graph-is (built-on (drawingIn file) (lines-on (recordsOf file)) (links-on (recordsOf file)))
+  unfolding drawingIn graphIn
+  graph-on = built-on (drawingIn file) (lines-on (recordsOf file)) (links-on (recordsOf file))
 
   pub graph-weights : (e : Edge) → In e (graphIn file .edges) → Nonneg binary64 (e .weight)
-  unfolding drawingIn
-  graph-weights = rw graph-is (built-weights (drawingIn file) (lines-on (recordsOf file)) (links-on (recordsOf file)))
+  unfolding drawingIn graphIn
+  graph-weights = built-weights (drawingIn file) (lines-on (recordsOf file)) (links-on (recordsOf file))
 
   -- and after check 6 there are few edges
   pub graph-few : Fits file → length (graphIn file .edges) < 2 ^ 20
-  unfolding drawingIn
-  graph-few f = rw graph-is (counted-few (drawingIn file) (counts-fit (drawingIn file) (f .counts)))
+  unfolding drawingIn graphIn
+  graph-few f = counted-few (drawingIn file) (counts-fit (drawingIn file) (f .counts))
