@@ -2,7 +2,7 @@
 -- of a line or an end of a link.
 use mathlib.Core.Path.{_≡_, refl, sym, ap, _∙_, subst}
 use mathlib.Core.List.{List, [], _∷_}
-use mathlib.Core.Bool.{Bool, true, false, _&&_, _||_, not, cond}
+use mathlib.Core.Bool.{Bool, true, false, _&&_, not, cond}
 use Prim.Native.Nat.{ℕ, suc, _+_}
 use native.Mathlib.Omega.{arith}
 use lib.Dec.{eqb, leb}
@@ -11,30 +11,24 @@ use Rattle.drawing.specs.Same.{same-true, differ}
 use Rattle.drawing.specs.Members.{All, either, all-append, all-front, all-back}
 use Rattle.drawing.specs.OnGrid.{AtEnds}
 use Rattle.graph.specs.Chain.{squared, Stroke, stroke, naming, splits, insert, sort, inner, changes, distinct, chain, pieces, linePieces, lineUses, piecesFrom, usesFrom, piecesOf, linkStrokes, linksOf, strokesOf, linkUses, usesOf}
-use Rattle.graph.specs.Degree.{one}
 use Rattle.graph.specs.Count.{sumOver, lineSum, lies, stepsBetween, strokesBetween}
 
 -- ---- wherever two different points follow each other in a chain, there is one piece between them, and between a point and itself there is none
 
+not-both : (s t : Bool) → (s ≡ true → t ≡ true → ⊥) → s && t ≡ false
+not-both true true h = absurd (h refl refl)
+not-both true false h = refl
+not-both false t h = refl
+
 -- nothing from a point to itself lies between two different points
 lies-still : (p q a : Point) → same p q ≡ false → lies p q a a ≡ 0
-lies-still p q a d = go (same a p) (same a q) refl refl
-  where
-    go : (s t : Bool) → same a p ≡ s → same a q ≡ t → one ((s && t) || (t && s)) ≡ 0
-    go true true e f = absurd (differ p q d (sym (same-true a p e) ∙ same-true a q f))
-    go true false e f = refl
-    go false true e f = refl
-    go false false e f = refl
+lies-still p q a d =
+    let apart : same a p ≡ true → same a q ≡ true → ⊥ = λ e f. differ p q d (sym (same-true a p e) ∙ same-true a q f) in
+    simp (not-both (same a p) (same a q) apart, not-both (same a q) (same a p) (λ f e. apart e f))
 
 -- and nothing between different points lies between a point and itself
 pub lies-own : (p a b : Point) → same a b ≡ false → lies p p a b ≡ 0
-lies-own p a b d = go (same a p) (same b p) refl refl
-  where
-    go : (s t : Bool) → same a p ≡ s → same b p ≡ t → one ((s && t) || (s && t)) ≡ 0
-    go true true e f = absurd (differ a b d (same-true a p e ∙ sym (same-true b p f)))
-    go true false e f = refl
-    go false true e f = refl
-    go false false e f = refl
+lies-own p a b d = simp (not-both (same a p) (same b p) (λ e f. differ a b d (same-true a p e ∙ sym (same-true b p f))))
 
 pub pieces-steps : (p q a : Point) (bs : List Point) → strokesBetween p q (pieces a bs) ≡ cond (same p q) 0 (stepsBetween p q (a ∷ bs))
 unfolding pieces sumOver lineSum
