@@ -5,8 +5,9 @@ usage: tools/definitions.py ANSWERS OUT [--each N] [--most BYTES]
 
 ANSWERS is a list of drawings and answers in the format of oracle/answers.txt. OUT is a folder outside the
 repository, for a scratch repository of the definitions and one crate more: `rt check` there proves, a theorem for each
-drawing and N theorems to a file, that the definition `plan` gives its answer, whole, with every byte written. Drawings
-of more than BYTES bytes are left out (the checker computes them too, but slowly).
+drawing and N theorems to a file, that the definition `plan` gives its answer, whole, with every byte written. Left out
+are drawings of more than BYTES bytes, and Optimal with 10 odd nodes or more: the definition tries every pairing, and
+that many take more steps than the checker allows.
 """
 import argparse
 import os
@@ -42,16 +43,17 @@ def numbers(values):
 
 
 def expected(case):
-    """The answer as a term, and an output just long enough to show where the record ends."""
+    """The answer as a term, and the length of an output just long enough to show where the record ends."""
     floats, tables, output = case["lent"]
     head = case["answer"][0].split()
     if head[0] == "refused":
         n = int(head[1])
-        lent = output if n == 14 else 0 if n < 14 else output
         if n == 14 and output > 4096:
             return None
-        return f"(refusal {n})", lent
+        return f"(refusal {n})", output if n == 14 else 0
     retrace, before, after, points = int(head[1], 16), int(head[2]), int(head[3]), int(head[4])
+    if case["file"][14] == 1 and before >= 10:
+        return None
     record = struct.pack("<IH", 16 * points, 4)
     for line in case["answer"][1:]:
         for steps in line.split():

@@ -5,6 +5,7 @@ pub mod Counted
 pub mod LineEnds
 pub mod Demand3
 pub mod Proved
+pub mod FileDecides
 pub mod Samples
 pub mod Written
 pub mod Drawn

@@ -36,12 +36,12 @@ use Rattle.planner.specs.Demand3.{Ends, Demand3, Statement}
 
 -- ---- what an accepted file is
 
-record Accepted (file : List ℕ) (lent : Lent) (answer : Planned) : Type 0 where
-  read : verdict (readConditions file) ≡ accepted
-  plans : verdict (planConditions file lent) ≡ accepted
-  answers : answerIn file lent ≡ answer
+pub record Accepted (file : List ℕ) (lent : Lent) (answer : Planned) : Type 0 where
+  pub read : verdict (readConditions file) ≡ accepted
+  pub plans : verdict (planConditions file lent) ≡ accepted
+  pub answers : answerIn file lent ≡ answer
 
-accepts : (file : List ℕ) (lent : Lent) (answer : Planned) → plan file lent ≡ planned answer → Accepted file lent answer
+pub accepts : (file : List ℕ) (lent : Lent) (answer : Planned) → plan file lent ≡ planned answer → Accepted file lent answer
 unfolding plan
 accepts file lent answer e = go (verdict (readConditions file)) (verdict (planConditions file lent)) refl refl e
   where

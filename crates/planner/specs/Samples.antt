@@ -92,23 +92,27 @@ starred : map given table ≡ map (λ (c : Case). c .want) table
 unfolding given table
 starred = refl
 
--- The bytes of a file and of its answer as they stand, those of document 01's example: so the cases above are of the files that they seem to be.
-example : plan
-    (10 ∷ 0 ∷ 0 ∷ 0 ∷ 1 ∷ 0
+-- The bytes of a file and of its answer as they stand, those of document 01's example: so the cases above are of the files that they seem to be. The record has 38 bytes:
+-- they fit an output of 38, and not one of 37.
+exampleFile : List ℕ
+exampleFile =
+    10 ∷ 0 ∷ 0 ∷ 0 ∷ 1 ∷ 0
     ∷ 10 ∷ 0 ∷ 0 ∷ 0 ∷ 10 ∷ 0 ∷ 0 ∷ 0 ∷ 0 ∷ 0
     ∷ 32 ∷ 0 ∷ 0 ∷ 0 ∷ 2 ∷ 0
     ∷ 0 ∷ 0 ∷ 0 ∷ 0 ∷ 0 ∷ 0 ∷ 0 ∷ 0 ∷ 0 ∷ 0 ∷ 0 ∷ 0 ∷ 0 ∷ 0 ∷ 0 ∷ 0
-    ∷ 0 ∷ 0 ∷ 0 ∷ 0 ∷ 0 ∷ 0 ∷ 8 ∷ 64 ∷ 0 ∷ 0 ∷ 0 ∷ 0 ∷ 0 ∷ 0 ∷ 16 ∷ 64 ∷ [])
-    (record { floats = 0; bytes = 0; output = replicate 39 7 })
-    ≡ planned (record {
-      retrace = 0;
-      before = 2;
-      after = 2;
-      points = 2;
-      output =
-          32 ∷ 0 ∷ 0 ∷ 0 ∷ 4 ∷ 0
-          ∷ 0 ∷ 0 ∷ 0 ∷ 0 ∷ 0 ∷ 0 ∷ 0 ∷ 0 ∷ 0 ∷ 0 ∷ 0 ∷ 0 ∷ 0 ∷ 0 ∷ 0 ∷ 0
-          ∷ 0 ∷ 0 ∷ 0 ∷ 0 ∷ 0 ∷ 0 ∷ 8 ∷ 64 ∷ 0 ∷ 0 ∷ 0 ∷ 0 ∷ 0 ∷ 0 ∷ 16 ∷ 64 ∷ 7 ∷ [];
-    })
-unfolding plan
+    ∷ 0 ∷ 0 ∷ 0 ∷ 0 ∷ 0 ∷ 0 ∷ 8 ∷ 64 ∷ 0 ∷ 0 ∷ 0 ∷ 0 ∷ 0 ∷ 0 ∷ 16 ∷ 64 ∷ []
+
+exampleRecord : List ℕ
+exampleRecord =
+    32 ∷ 0 ∷ 0 ∷ 0 ∷ 4 ∷ 0
+    ∷ 0 ∷ 0 ∷ 0 ∷ 0 ∷ 0 ∷ 0 ∷ 0 ∷ 0 ∷ 0 ∷ 0 ∷ 0 ∷ 0 ∷ 0 ∷ 0 ∷ 0 ∷ 0
+    ∷ 0 ∷ 0 ∷ 0 ∷ 0 ∷ 0 ∷ 0 ∷ 8 ∷ 64 ∷ 0 ∷ 0 ∷ 0 ∷ 0 ∷ 0 ∷ 0 ∷ 16 ∷ 64 ∷ []
+
+example : plan exampleFile (record { floats = 0; bytes = 0; output = replicate 38 7 })
+    ≡ planned (record { retrace = 0; before = 2; after = 2; points = 2; output = exampleRecord })
+unfolding plan exampleFile exampleRecord
 example = refl
+
+example-short : plan exampleFile (record { floats = 0; bytes = 0; output = replicate 37 7 }) ≡ refusal 14
+unfolding plan exampleFile
+example-short = refl

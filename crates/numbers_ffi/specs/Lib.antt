@@ -1,0 +1,2 @@
+-- What the exported numbers answer.
+pub mod Numbers
