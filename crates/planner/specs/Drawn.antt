@@ -14,8 +14,10 @@ use Rattle.graph.specs.Chain.{Stroke, piecesOf, linksOf, strokesOf}
 use Rattle.graph.specs.Graph.{Edge, pointAt}
 use Rattle.graph.specs.Count.{lies, touches, strokesBetween, strokesAt}
 use Rattle.graph.specs.Sums.{sumOver-append}
-use Rattle.graph.specs.Built.{built-on, built-weights}
+use Rattle.graph.specs.Built.{built-on, built-inside, built-weights}
 use Rattle.graph.specs.Few.{counted-few}
+use Rattle.repair.specs.Distance.{distanceAt, distances}
+use Rattle.repair.specs.Least.{Least, least-distance}
 use Rattle.planner.specs.Plan.{drawingIn, graphIn}
 use Rattle.planner.specs.Words.{piecesBetween, linksBetween, drawnAt}
 
@@ -42,3 +44,9 @@ module _ (file : List ℕ) where
   pub graph-few : Fits file → length (graphIn file .edges) < 2 ^ 20
   unfolding drawingIn graphIn
   graph-few f = counted-few (drawingIn file) (counts-fit (drawingIn file) (f .counts))
+
+  -- so the distances that Optimal pairs by are the least over all ways of the drawing
+  pub graph-least : (s : ℕ) → s < length (graphIn file .nodes) → (v : ℕ)
+      → Least (graphIn file .edges) s v (distanceAt (distances (length (graphIn file .nodes)) (graphIn file .edges) s) v)
+  unfolding graphIn
+  graph-least = least-distance (length (graphIn file .nodes)) (graphIn file .edges) graph-weights (built-inside (drawingIn file))

@@ -1,8 +1,9 @@
 -- The words of demand 3, as document 01 has them.
 use Prim.Native.Nat.{ℕ, _+_, _/_}
-use mathlib.Core.List.{List, map}
-use mathlib.Core.Bool.{Bool}
+use mathlib.Core.List.{List, [], map}
+use mathlib.Core.Bool.{Bool, true, false}
 use lib.ListN.{drop}
+use lib.Dec.{eqb}
 use Rattle.drawing.specs.Bytes.{number}
 use Rattle.drawing.specs.Drawing.{Point}
 use Rattle.drawing.specs.Read.{points}
@@ -16,7 +17,7 @@ use Rattle.planner.specs.Plan.{drawingIn, graphIn, repairIn, repairOr}
 -- The line written is the list of points in the kind 4 record at the front of the output.
 unfoldable pub lineWritten : List ℕ → List Point
 unfolding number points
-lineWritten output = points (number 4 output / 16) (drop 6 output)
+lineWritten output = elim (eqb (number 2 (drop 4 output)) 4) [ true ↦ points (number 4 output / 16) (drop 6 output) | false ↦ [] ]
 
 -- pieces and links, counted from the file
 unfoldable pub piecesBetween : Point → Point → List ℕ → ℕ

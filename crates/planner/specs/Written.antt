@@ -1,6 +1,7 @@
 -- The line written is the line: what the kind 4 record holds is read back point by point.
 use mathlib.Core.Path.{_≡_, refl, sym, ap, _∙_}
 use mathlib.Core.List.{List, [], _∷_, _++_, append-assoc}
+use lib.Dec.{lit<}
 use Prim.Native.Nat.{ℕ, _+_, _*_, _/_, _^_, _≤_, _<_}
 use native.Mathlib.Omega.{arith}
 use lib.ListN.{length, drop}
@@ -65,5 +66,6 @@ line-back line rest a h =
     let head = bytes 4 (16 * length line) ++ kind in
     let size : number 4 head ≡ 16 * length line = number-bytes 4 (16 * length line) kind h in
     let count : number 4 head / 16 ≡ length line = omega arith in
+    let four : number 2 (drop 4 head) ≡ 4 = rw (drop-bytes 4 (16 * length line) kind) (number-bytes 2 4 body (lit< tt)) in
     let behind : drop 6 head ≡ body = drop-on 4 2 head kind body (drop-bytes 4 (16 * length line) kind) (drop-bytes 2 4 body) in
-    rw (line-record line rest, count, behind) (points-back line rest a)
+    rw (line-record line rest, four, count, behind) (points-back line rest a)
