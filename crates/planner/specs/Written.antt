@@ -1,7 +1,9 @@
 -- The line written is the line: what the kind 4 record holds is read back point by point.
-use mathlib.Core.Path.{_≡_, refl, sym, ap, _∙_}
+use mathlib.Core.Path.{_≡_, refl, sym, ap, _∙_, subst}
 use mathlib.Core.List.{List, [], _∷_, _++_, append-assoc}
+use mathlib.Core.Bool.{Bool, true, false}
 use lib.Dec.{lit<}
+use borrow.Author.Tests.{eq-eqb}
 use Prim.Native.Nat.{ℕ, _+_, _*_, _/_, _^_, _≤_, _<_}
 use native.Mathlib.Omega.{arith}
 use lib.ListN.{length, drop}
@@ -58,8 +60,12 @@ line-record : (line : List Point) (rest : List ℕ) → lineRecord line ++ rest 
 unfolding lineRecord
 line-record line rest = simp append-assoc
 
-pub line-back : (line : List Point) (rest : List ℕ) → All OnGrid line → 16 * length line < 2 ^ 32 → lineWritten (lineRecord line ++ rest) ≡ line
+-- a record of kind 4 is a line
+kind-4 : (output : List ℕ) → number 2 (drop 4 output) ≡ 4 → lineWritten output ≡ points (number 4 output / 16) (drop 6 output)
 unfolding lineWritten
+kind-4 output h = subst (λ (t : Bool). elim t [ true ↦ points (number 4 output / 16) (drop 6 output) | false ↦ [] ] ≡ points (number 4 output / 16) (drop 6 output)) (sym (eq-eqb _ 4 h)) refl
+
+pub line-back : (line : List Point) (rest : List ℕ) → All OnGrid line → 16 * length line < 2 ^ 32 → lineWritten (lineRecord line ++ rest) ≡ line
 line-back line rest a h =
     let body = pointBytes line ++ rest in
     let kind = bytes 2 4 ++ body in
@@ -68,4 +74,4 @@ line-back line rest a h =
     let count : number 4 head / 16 ≡ length line = omega arith in
     let four : number 2 (drop 4 head) ≡ 4 = rw (drop-bytes 4 (16 * length line) kind) (number-bytes 2 4 body (lit< tt)) in
     let behind : drop 6 head ≡ body = drop-on 4 2 head kind body (drop-bytes 4 (16 * length line) kind) (drop-bytes 2 4 body) in
-    rw (line-record line rest, four, count, behind) (points-back line rest a)
+    rw (line-record line rest) (kind-4 head four ∙ rw (count, behind) (points-back line rest a))
