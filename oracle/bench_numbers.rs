@@ -1,7 +1,7 @@
 //! Times the port's numbers against Rust's, from one driver on the same inputs.
 //!
-//!     rt staticlib numbers_ffi
-//!     rustc -O --edition 2021 oracle/bench_numbers.rs -L target/staticlib -l static=numbers_ffi -o OUT
+//!     rt staticlib numbers_c
+//!     rustc -O --edition 2021 oracle/bench_numbers.rs -L target/staticlib -l static=numbers_c -o OUT
 //!     OUT
 //!
 //! Every answer is compared as well. The time is that of a loop over one million inputs that stand in a
@@ -12,9 +12,9 @@ use std::hint::black_box;
 use std::time::Instant;
 
 extern "C" {
-    fn numbers_ffi_length(n: u64) -> f64;
-    fn numbers_ffi_read_place(bits: u64) -> u32;
-    fn numbers_ffi_write_place(place: u32) -> u64;
+    fn numbers_c_length(n: u64) -> f64;
+    fn numbers_c_read_place(bits: u64) -> u32;
+    fn numbers_c_write_place(place: u32) -> u64;
 }
 
 const OFF: u32 = u32::MAX;
@@ -87,10 +87,10 @@ fn main() {
     let mut not_nearest = 0;
     for i in 0..count {
         unsafe {
-            wrong += usize::from(numbers_ffi_length(squares[i]).to_bits() != length_by_sqrt(squares[i]).to_bits());
-            wrong += usize::from(numbers_ffi_read_place(patterns[i]) != place(patterns[i]));
-            wrong += usize::from(numbers_ffi_read_place(damaged[i]) != place(damaged[i]));
-            wrong += usize::from(numbers_ffi_write_place(places[i]) != patterns[i]);
+            wrong += usize::from(numbers_c_length(squares[i]).to_bits() != length_by_sqrt(squares[i]).to_bits());
+            wrong += usize::from(numbers_c_read_place(patterns[i]) != place(patterns[i]));
+            wrong += usize::from(numbers_c_read_place(damaged[i]) != place(damaged[i]));
+            wrong += usize::from(numbers_c_write_place(places[i]) != patterns[i]);
         }
         let (x, y) = floats[i];
         not_nearest += usize::from(length_by_hypot(x, y).to_bits() != length_by_sqrt(squares[i]).to_bits());
@@ -98,13 +98,13 @@ fn main() {
     println!("{count} inputs each: {wrong} answers differ; the C library's hypot differs on {not_nearest}");
 
     time("empty loop", &squares, |n| n);
-    time("length, port", &squares, |n| unsafe { numbers_ffi_length(n) });
+    time("length, port", &squares, |n| unsafe { numbers_c_length(n) });
     time("length, Rust, the machine's root", &squares, length_by_sqrt);
     time("length, Rust, hypot", &floats, |(x, y)| length_by_hypot(x, y));
-    time("coordinate to place, port", &patterns, |b| unsafe { numbers_ffi_read_place(b) });
+    time("coordinate to place, port", &patterns, |b| unsafe { numbers_c_read_place(b) });
     time("coordinate to place, Rust", &patterns, place);
-    time("the same, damaged, port", &damaged, |b| unsafe { numbers_ffi_read_place(b) });
+    time("the same, damaged, port", &damaged, |b| unsafe { numbers_c_read_place(b) });
     time("the same, damaged, Rust", &damaged, place);
-    time("place to coordinate, port", &places, |p| unsafe { numbers_ffi_write_place(p) });
+    time("place to coordinate, port", &places, |p| unsafe { numbers_c_write_place(p) });
     time("place to coordinate, Rust", &places, pattern);
 }

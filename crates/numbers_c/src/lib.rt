@@ -2,12 +2,12 @@
 ghost use mathlib.Core.Path.{_≡_};
 ghost use Rattle.grid.specs.Grid.{readPlace, writePlace};
 ghost use Rattle.length.specs.Root.{lengthOf};
-ghost use Rattle.numbers_ffi.specs.Numbers.{placeNumber};
+ghost use Rattle.numbers_c.specs.Numbers.{placeNumber};
 use grid::Place;
 
 // The f64 nearest to the root of n squared grid steps, in pixels.
 #[no_mangle]
-pub extern "C" fn numbers_ffi_length(n: u64) -> f64
+pub extern "C" fn numbers_c_length(n: u64) -> f64
     ensures { λ r. ⌜ r ≡ lengthOf n ⌝ }
 {
     length::length(n)
@@ -24,7 +24,7 @@ fn place_number(place: Place) -> u32
 
 // The place of a coordinate's bits, or the largest u32 for bits that are off the grid.
 #[no_mangle]
-pub extern "C" fn numbers_ffi_read_place(bits: u64) -> u32
+pub extern "C" fn numbers_c_read_place(bits: u64) -> u32
     ensures { λ r. ⌜ r ≡ placeNumber (readPlace bits) ⌝ }
 {
     place_number(grid::read_place(bits))
@@ -32,7 +32,7 @@ pub extern "C" fn numbers_ffi_read_place(bits: u64) -> u32
 
 // The bits of the coordinate at a place.
 #[no_mangle]
-pub extern "C" fn numbers_ffi_write_place(place: u32) -> u64
+pub extern "C" fn numbers_c_write_place(place: u32) -> u64
     ensures { λ r. ⌜ r ≡ writePlace place ⌝ }
 {
     grid::write_place(place)
