@@ -6,7 +6,7 @@ use mathlib.Core.List.{List, [], _∷_}
 use mathlib.Core.Bool.{Bool, true, false}
 use lib.Dec.{leb}
 use lib.ListN.{length, take, drop, length-drop, drop-of-length-le}
-use lib.Seq.{drop-drop}
+use lib.Seq.{drop-drop, length-take-le}
 use borrow.Author.Tests.{le-leb, lt-leb, leb-true, leb-false}
 use Rattle.drawing.specs.Bytes.{number}
 use Rattle.drawing.specs.Read.{Record, Split, whole, cut, before, split, recordsOf, isCut}
@@ -160,3 +160,6 @@ module _ (file : List ℕ) (at : ℕ) (h : at < length file) where
   record-here w =
       let r = room w in
       records-step (drop at file) some (rw length-drop (omega arith)) w ∙ rw (drop-drop 4 at file, drop-drop 6 at file, drop-drop (6 + sizeAt file at) at file)
+
+  pub body-long : cutFrom file at ≡ false → length (bodyAt file at) ≡ sizeAt file at
+  body-long w = let r = room w in length-take-le (sizeAt file at) (drop (at + 6) file) (rw length-drop (omega arith))
