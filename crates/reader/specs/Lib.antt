@@ -1,2 +1,4 @@
 -- What the reader answers: a file's verdict and the drawing that it holds.
 pub mod Tally
+pub mod Held
+pub mod Coordinates

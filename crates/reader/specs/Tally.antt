@@ -104,6 +104,7 @@ kinds rs = ap orderFits (order-is rs noTally) ∙ whole rs
     first : (r : Record) (rs : List Record) (b : Bool) → eqb (r .kind) 1 ≡ b → orderFits (ordered rs (after Settings (r .kind))) ≡ eqb (r .kind) 1 && linesThenLinks rs
     first r rs true k = rw k (lines-first rs)
     first r rs false k = rw k (broken rs)
+
     whole : (rs : List Record) → orderFits (ordered rs Settings) ≡ kindsFit rs
     whole [] = refl
     whole (r ∷ rs) = first r rs (eqb (r .kind) 1) refl
@@ -158,10 +159,13 @@ lengths-cons r rs = go (kind-of (r .kind))
   where
     one : List Record → Bool
     one rs = every (λ (b : List ℕ). eqb (length b) 10) (bodies 1 rs)
+
     two : List Record → Bool
     two rs = every (λ (b : List ℕ). eqb (length b % 16) 0) (bodies 2 rs)
+
     three : List Record → Bool
     three rs = every (λ (b : List ℕ). eqb (length b) 40) (bodies 3 rs)
+
     go : Kind (r .kind) → lengthsFit (r ∷ rs) ≡ lengthFits (r .kind) (length (r .body)) && lengthsFit rs
     go (first e) = rw (bodies-here 1 r rs e, bodies-other 2 r rs (λ q. omega arith), bodies-other 3 r rs (λ q. omega arith), e) (shift1 (eqb (length (r .body)) 10) (one rs) (two rs) (three rs))
     go (second e) = rw (bodies-other 1 r rs (λ q. omega arith), bodies-here 2 r rs e, bodies-other 3 r rs (λ q. omega arith), e) (shift2 (eqb (length (r .body) % 16) 0) (one rs) (two rs) (three rs))
@@ -295,8 +299,20 @@ count-on file at t u k n c h K N U =
       points-few = omega arith;
       links-few = omega arith;
       same =
-        ap (λ (a : ℕ). tallied (recordsFrom file a) u) step
-        ∙ ap (tallied (recordsFrom file (nextAt file at))) (U ∙ ap (λ (k : ℕ). countedAs t k n) K ∙ ap (countedAs t (kindAt file at)) (N ∙ sym (body-long file at h (c .is-whole))))
-        ∙ sym (ap (λ (rs : List Record). tallied rs t) (record-here file at h (c .is-whole)))
-        ∙ c .same;
+          ap (λ (a : ℕ). tallied (recordsFrom file a) u) step
+          ∙ ap (tallied (recordsFrom file (nextAt file at))) (U ∙ ap (λ (k : ℕ). countedAs t k n) K ∙ ap (countedAs t (kindAt file at)) (N ∙ sym (body-long file at h (c .is-whole))))
+          ∙ sym (ap (λ (rs : List Record). tallied rs t) (record-here file at h (c .is-whole)))
+          ∙ c .same;
     }
+
+-- ---- the lengths that the kinds ask
+
+module _ (k n : ℕ) (h : lengthFits k n ≡ true) where
+  pub settings-size : k ≡ 1 → n ≡ 10
+  settings-size e = eqb-true n 10 (sym (rw e) ∙ h)
+
+  pub line-size : k ≡ 2 → n % 16 ≡ 0
+  line-size e = eqb-true (n % 16) 0 (sym (rw e) ∙ h)
+
+  pub link-size : k ≡ 3 → n ≡ 40
+  link-size e = eqb-true n 40 (sym (rw e) ∙ h)

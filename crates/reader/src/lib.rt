@@ -3,9 +3,24 @@ ghost use mathlib.Core.Path.{_≡_};
 ghost use mathlib.Core.Bool.{_&&_, false, true};
 ghost use Prim.Native.Nat.{_+_, _*_, _≤_, _<_};
 ghost use lib.ListN.{length, drop};
-ghost use Rattle.limits.specs.Limits.{mostBytes};
-ghost use Rattle.drawing.specs.Read.{isCut, recordsOf};
+ghost use lib.Dec.{leb};
+ghost use Rattle.limits.specs.Limits.{mostBytes, mostLines, mostPoints, mostLinks};
+ghost use Rattle.drawing.specs.Read.{isCut, recordsOf, lengthsFit, settingsFit, coordinatesFit};
+ghost use Rattle.records.specs.Body.{recordRead};
 ghost use Rattle.reader.specs.Tally.{after, orderFits, lengthFits, oneIf, pointsIf, countedAs, tallied, noTally};
+ghost use Rattle.reader.specs.Held.{settingsIn, spanIn, edgeIn, settingsBack, noSettings, noEdge};
+ghost use Rattle.reader.specs.Coordinates.{wordsOn, recordOn};
+use limits::MOST_FLAGS;
+use limits::MOST_LINES;
+use limits::MOST_LINKS;
+use limits::MOST_PAIRING;
+use limits::MOST_POINTS;
+use limits::MOST_SIDE;
+use records::Body;
+use records::MstEdge;
+use records::Point;
+use records::Settings;
+use records::Span;
 
 // What may come next in a file: its settings; lines or links; links only. `Broken` is a file whose
 // records do not come in that order.
@@ -122,13 +137,25 @@ fn counted(t: Tally, kind: u16, size: usize) -> Tally
     let lines = t.lines + one_if(kind, 2);
     let points = t.points + points_if(kind, size);
     let links = t.links + one_if(kind, 3);
-    Tally { order, lengths, lines, points, links }
+    Tally {
+        order,
+        lengths,
+        lines,
+        points,
+        links,
+    }
 }
 
 fn no_tally() -> Tally
     ensures { λ r. ⌜ r ≡ noTally ⌝ }
 {
-    Tally { order: Order::Settings, lengths: true, lines: 0, points: 0, links: 0 }
+    Tally {
+        order: Order::Settings,
+        lengths: true,
+        lines: 0,
+        points: 0,
+        links: 0,
+    }
 }
 
 // The tally of a whole file, of which no record passes the end.
@@ -145,4 +172,157 @@ fn tally_of(file: &[u8]) -> Tally
         at += 6 + size;
     }
     t
+}
+
+// Check 6.
+fn counts_fit(lines: usize, points: usize, links: usize) -> bool
+    ensures { λ r. ⌜ r ≡ (leb lines mostLines && leb points mostPoints && leb links mostLinks) ⌝ }
+{
+    if MOST_LINES < lines {
+        return false;
+    }
+    if MOST_POINTS < points {
+        return false;
+    }
+    links <= MOST_LINKS
+}
+
+// Check 5.
+fn settings_fit(s: Settings) -> bool
+    ensures { λ r. ⌜ r ≡ settingsFit (settingsBack s) ⌝ }
+{
+    if MOST_SIDE < s.width {
+        return false;
+    }
+    if MOST_SIDE < s.height {
+        return false;
+    }
+    if MOST_PAIRING < s.pairing {
+        return false;
+    }
+    s.flags <= MOST_FLAGS
+}
+
+fn no_settings() -> Settings
+    ensures { λ r. ⌜ r ≡ noSettings ⌝ }
+{
+    Settings {
+        width: 0,
+        height: 0,
+        pairing: 0,
+        flags: 0,
+    }
+}
+
+fn no_edge() -> MstEdge
+    ensures { λ r. ⌜ r ≡ noEdge ⌝ }
+{
+    let point = Point { x: 0.0, y: 0.0 };
+    MstEdge {
+        poly_a: 0,
+        seg_a: 0,
+        poly_b: 0,
+        seg_b: 0,
+        point_a: point,
+        point_b: point,
+    }
+}
+
+// The settings, the line's span and the link of the record at a place, and nothing where it is another.
+fn settings_of(file: &[u8], at: usize) -> Settings
+    ensures { λ r. ⌜ r ≡ settingsIn (recordRead (now (file .entry)) at .body) ⌝ }
+{
+    let found = records::record_at(file, at);
+    let body = found.body;
+    match body {
+        Body::Settings(settings) => settings,
+        Body::Line(_) => no_settings(),
+        Body::Link(_) => no_settings(),
+        Body::Other => no_settings(),
+    }
+}
+
+fn span_of(file: &[u8], at: usize) -> Span
+    ensures { λ r. ⌜ r ≡ spanIn (recordRead (now (file .entry)) at .body) ⌝ }
+{
+    let found = records::record_at(file, at);
+    let body = found.body;
+    match body {
+        Body::Settings(_) => Span {
+            start: 0,
+            points: 0,
+        },
+        Body::Line(span) => span,
+        Body::Link(_) => Span {
+            start: 0,
+            points: 0,
+        },
+        Body::Other => Span {
+            start: 0,
+            points: 0,
+        },
+    }
+}
+
+fn edge_of(file: &[u8], at: usize) -> MstEdge
+    ensures { λ r. ⌜ r ≡ edgeIn (recordRead (now (file .entry)) at .body) ⌝ }
+{
+    let found = records::record_at(file, at);
+    let body = found.body;
+    match body {
+        Body::Settings(_) => no_edge(),
+        Body::Line(_) => no_edge(),
+        Body::Link(edge) => edge,
+        Body::Other => no_edge(),
+    }
+}
+
+// Whether the coordinates in a row from a place on are all on the grid.
+fn words_on_grid(file: &[u8], at: usize, count: usize) -> bool
+    requires { ⌜ at + 8 * count ≤ length (now file) ⌝ }
+    ensures { λ r. ⌜ r ≡ wordsOn (now (file .entry)) at count ⌝ }
+{
+    let mut place = at;
+    let mut left = count;
+    while left > 0 {
+        let on = records::on_grid(file, place);
+        if !on {
+            return false;
+        }
+        place += 8;
+        left -= 1;
+    }
+    true
+}
+
+// Check 7, of one record: a line's body is coordinates, and so is a link's from its ninth byte on.
+fn record_on_grid(file: &[u8], at: usize, kind: u16, size: usize) -> bool
+    requires { ⌜ (at + (6 + size) ≤ length (now file)) × (lengthFits kind size ≡ true) ⌝ }
+    ensures { λ r. ⌜ r ≡ recordOn (now (file .entry)) at kind size ⌝ }
+{
+    if kind == 2 {
+        return words_on_grid(file, at + 6, size / 8);
+    }
+    if kind == 3 {
+        return words_on_grid(file, at + 14, 4);
+    }
+    true
+}
+
+// Check 7.
+fn coordinates_fit(file: &[u8]) -> bool
+    requires { ⌜ (isCut (now file) ≡ false) × (lengthsFit (recordsOf (now file)) ≡ true) ⌝ }
+    ensures { λ r. ⌜ r ≡ coordinatesFit (recordsOf (now (file .entry))) ⌝ }
+{
+    let mut at = 0;
+    while at < file.len() {
+        let size = records::size_at(file, at);
+        let kind = records::kind_at(file, at);
+        let on = record_on_grid(file, at, kind, size);
+        if !on {
+            return false;
+        }
+        at += 6 + size;
+    }
+    true
 }
