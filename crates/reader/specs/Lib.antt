@@ -2,3 +2,7 @@
 pub mod Tally
 pub mod Held
 pub mod Coordinates
+pub mod Stores
+pub mod Kinds
+pub mod Lines
+pub mod Links

@@ -2,7 +2,7 @@
 ghost use mathlib.Core.Path.{_≡_};
 ghost use mathlib.Core.Bool.{_&&_, false, true};
 ghost use Prim.Native.Nat.{_+_, _*_, _≤_, _<_};
-ghost use lib.ListN.{length, drop};
+ghost use lib.ListN.{length, drop, replicate};
 ghost use lib.Dec.{leb};
 ghost use Rattle.limits.specs.Limits.{mostBytes, mostLines, mostPoints, mostLinks};
 ghost use Rattle.drawing.specs.Read.{isCut, recordsOf, lengthsFit, settingsFit, coordinatesFit};
@@ -10,6 +10,11 @@ ghost use Rattle.records.specs.Body.{recordRead};
 ghost use Rattle.reader.specs.Tally.{after, orderFits, lengthFits, oneIf, pointsIf, countedAs, tallied, noTally};
 ghost use Rattle.reader.specs.Held.{settingsIn, spanIn, edgeIn, settingsBack, noSettings, noEdge};
 ghost use Rattle.reader.specs.Coordinates.{wordsOn, recordOn};
+ghost use Rattle.reader.specs.Stores.{xsOf, ysOf};
+ghost use Rattle.reader.specs.Lines.{AtLines, LinesRead};
+ghost use Rattle.reader.specs.Links.{AtLinks, edgesFrom};
+ghost use lib.Seq.{sets};
+ghost use Rattle.drawing.specs.Read.{points};
 use limits::MOST_FLAGS;
 use limits::MOST_LINES;
 use limits::MOST_LINKS;
@@ -325,4 +330,82 @@ fn coordinates_fit(file: &[u8]) -> bool
         at += 6 + size;
     }
     true
+}
+
+// The lines of a drawing, in flat arrays: line i's points are those from starts[i] to starts[i + 1].
+pub struct Lines {
+    pub starts: [u16; 257],
+    pub xs: [u32; 1024],
+    pub ys: [u32; 1024],
+    pub end: usize,
+}
+
+// Puts `count` points, which start at a place of the file, into the arrays from an index on.
+fn fill_points(
+    file: &[u8],
+    at: usize,
+    count: usize,
+    first: usize,
+    xs: &mut [u32; 1024],
+    ys: &mut [u32; 1024],
+)
+    requires { ⌜ (at + 16 * count ≤ length (now file)) × (first + count ≤ mostPoints) ⌝ }
+    ensures xs_filled { λ _. ⌜ now (xs .exit) ≡ sets (now (xs .entry)) first (xsOf (points count (drop at (now (file .entry))))) ⌝ }
+    ensures ys_filled { λ _. ⌜ now (ys .exit) ≡ sets (now (ys .entry)) first (ysOf (points count (drop at (now (file .entry))))) ⌝ }
+{
+    let mut place = at;
+    let mut left = count;
+    let mut i = first;
+    while left > 0 {
+        xs[i] = records::place_at(file, place);
+        ys[i] = records::place_at(file, place + 8);
+        place += 16;
+        left -= 1;
+        i += 1;
+    }
+}
+
+// The lines of a file, of which there are `count`, from the place of the first on.
+fn read_lines(file: &[u8], start: usize, count: usize) -> Lines
+    requires { ⌜ AtLines (now file) start count ⌝ }
+    ensures { λ r. ⌜ LinesRead (now (file .entry)) start r ⌝ }
+{
+    let mut starts = [0u16; 257];
+    let mut xs = [0u32; 1024];
+    let mut ys = [0u32; 1024];
+    let mut at = start;
+    let mut line = 0;
+    let mut filled = 0;
+    while line < count {
+        let span = span_of(file, at);
+        let first = span.start;
+        let points = span.points;
+        fill_points(file, first, points, filled, &mut xs, &mut ys);
+        filled += points;
+        line += 1;
+        starts[line] = filled as u16;
+        at = first + 16 * points;
+    }
+    Lines {
+        starts,
+        xs,
+        ys,
+        end: at,
+    }
+}
+
+// The links of a file, of which there are `count`, from the place of the first on.
+fn read_links(file: &[u8], start: usize, count: usize) -> [MstEdge; 255]
+    requires { ⌜ AtLinks (now file) start count ⌝ }
+    ensures { λ r. ⌜ r ≡ sets (replicate 255 noEdge) 0 (edgesFrom (now (file .entry)) start) ⌝ }
+{
+    let mut edges = [no_edge(); 255];
+    let mut at = start;
+    let mut link = 0;
+    while link < count {
+        edges[link] = edge_of(file, at);
+        at += 46;
+        link += 1;
+    }
+    edges
 }
