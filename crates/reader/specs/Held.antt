@@ -1,6 +1,6 @@
 -- The values that the drawing holds, and what stands where there are none.
 use Prim.Native.Nat.{ℕ}
-use lib.Ieee.{Float, fin}
+use lib.Ieee.{fin, nan}
 use mathlib.Core.Bool.{false}
 use lib.IntN.{pos}
 use Rattle.drawing.specs.Drawing as drawn
@@ -22,6 +22,10 @@ noPoint = record { x = fin false 0 (pos 0); y = fin false 0 (pos 0) }
 
 abbrev pub noEdge : MstEdge
 noEdge = record { «poly_a» = 0; «seg_a» = 0; «poly_b» = 0; «seg_b» = 0; «point_a» = noPoint; «point_b» = noPoint }
+
+-- what the checker takes an element past the end of an array to be: no link is read there
+abbrev pub pastEnd : MstEdge
+pastEnd = record { «poly_a» = 0; «seg_a» = 0; «poly_b» = 0; «seg_b» = 0; «point_a» = record { x = nan; y = nan }; «point_b» = record { x = nan; y = nan } }
 
 -- what each case of `Body` gives
 abbrev pub settingsIn : Body → Settings

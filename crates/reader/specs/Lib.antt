@@ -6,3 +6,4 @@ pub mod Stores
 pub mod Kinds
 pub mod Lines
 pub mod Links
+pub mod Fit

@@ -1,7 +1,7 @@
 // The reader of drawing files: for every slice of bytes the first of checks 1 to 8 that holds, or the drawing.
 ghost use mathlib.Core.Path.{_≡_};
 ghost use mathlib.Core.Bool.{_&&_, false, true};
-ghost use Prim.Native.Nat.{_+_, _*_, _≤_, _<_};
+ghost use Prim.Native.Nat.{_+_, _-_, _*_, _≤_, _<_};
 ghost use lib.ListN.{length, drop, replicate};
 ghost use lib.Dec.{leb};
 ghost use Rattle.limits.specs.Limits.{mostBytes, mostLines, mostPoints, mostLinks};
@@ -13,6 +13,7 @@ ghost use Rattle.reader.specs.Coordinates.{wordsOn, recordOn};
 ghost use Rattle.reader.specs.Stores.{xsOf, ysOf};
 ghost use Rattle.reader.specs.Lines.{AtLines, LinesRead};
 ghost use Rattle.reader.specs.Links.{AtLinks, edgesFrom};
+ghost use Rattle.reader.specs.Fit.{endHeld, edgeHeld, edgesHeld};
 ghost use lib.Seq.{sets};
 ghost use Rattle.drawing.specs.Read.{points};
 use limits::MOST_FLAGS;
@@ -408,4 +409,59 @@ fn read_links(file: &[u8], start: usize, count: usize) -> [MstEdge; 255]
         link += 1;
     }
     edges
+}
+
+// The highest segment of a line: two less than its points, and 0 for a dot.
+fn most_segment(points: u16) -> u16
+    ensures { λ r. ⌜ r ≡ points - 2 ⌝ }
+{
+    if points < 2 {
+        return 0;
+    }
+    points - 2
+}
+
+// Check 8, of one end of a link: its line is there and has points, and its segment is one of them.
+fn end_fits(starts: &[u16; 257], lines: usize, line: u16, segment: u16) -> bool
+    requires { ⌜ lines ≤ mostLines ⌝ }
+    ensures { λ r. ⌜ r ≡ endHeld (now (starts .entry)) lines line segment ⌝ }
+{
+    let i = line as usize;
+    if lines <= i {
+        return false;
+    }
+    let first = starts[i];
+    let last = starts[i + 1];
+    if last <= first {
+        return false;
+    }
+    let most = most_segment(last - first);
+    segment <= most
+}
+
+// Check 8, of a link.
+fn edge_fits(starts: &[u16; 257], lines: usize, e: MstEdge) -> bool
+    requires { ⌜ lines ≤ mostLines ⌝ }
+    ensures { λ r. ⌜ r ≡ edgeHeld (now (starts .entry)) lines e ⌝ }
+{
+    let a = end_fits(starts, lines, e.poly_a, e.seg_a);
+    let b = end_fits(starts, lines, e.poly_b, e.seg_b);
+    both(a, b)
+}
+
+// Check 8.
+fn edges_fit(starts: &[u16; 257], lines: usize, edges: [MstEdge; 255], count: usize) -> bool
+    requires { ⌜ (lines ≤ mostLines) × (count ≤ mostLinks) ⌝ }
+    ensures { λ r. ⌜ r ≡ edgesHeld (now (starts .entry)) lines edges count 0 ⌝ }
+{
+    let mut i = 0;
+    while i < count {
+        let e = edges[i];
+        let fits = edge_fits(starts, lines, e);
+        if !fits {
+            return false;
+        }
+        i += 1;
+    }
+    true
 }
