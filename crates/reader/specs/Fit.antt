@@ -96,8 +96,10 @@ module _ (ls : List (List Point)) (few : length ls ≤ 256) where
     where
       i : ℕ
       i = e .line
+
       starts : List ℕ
       starts = sets (replicate 257 0) 1 (endsFrom 0 ls)
+
       go : (b : Bool) → ltb i (length ls) ≡ b → endHeld starts (length ls) i (e .segment) ≡ endFits ls e
       go true h =
           let k = ltb-true i (length ls) h in

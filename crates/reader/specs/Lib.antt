@@ -7,3 +7,6 @@ pub mod Kinds
 pub mod Lines
 pub mod Links
 pub mod Fit
+pub mod First
+pub mod Reading
+pub mod Whole

@@ -5,7 +5,7 @@ ghost use Prim.Native.Nat.{_+_, _-_, _*_, _≤_, _<_};
 ghost use lib.ListN.{length, drop, replicate};
 ghost use lib.Dec.{leb};
 ghost use Rattle.limits.specs.Limits.{mostBytes, mostLines, mostPoints, mostLinks};
-ghost use Rattle.drawing.specs.Read.{isCut, recordsOf, lengthsFit, settingsFit, coordinatesFit};
+ghost use Rattle.drawing.specs.Read.{isCut, recordsOf, lengthsFit, settingsFit, coordinatesFit, drawingOf};
 ghost use Rattle.records.specs.Body.{recordRead};
 ghost use Rattle.reader.specs.Tally.{after, orderFits, lengthFits, oneIf, pointsIf, countedAs, tallied, noTally};
 ghost use Rattle.reader.specs.Held.{settingsIn, spanIn, edgeIn, settingsBack, noSettings, noEdge};
@@ -14,8 +14,10 @@ ghost use Rattle.reader.specs.Stores.{xsOf, ysOf};
 ghost use Rattle.reader.specs.Lines.{AtLines, LinesRead};
 ghost use Rattle.reader.specs.Links.{AtLinks, edgesFrom};
 ghost use Rattle.reader.specs.Fit.{endHeld, edgeHeld, edgesHeld};
+ghost use Rattle.reader.specs.Reading.{firstSeven, Passed, drawingHeld, noDrawing, refusedAs, readingOf};
 ghost use lib.Seq.{sets};
 ghost use Rattle.drawing.specs.Read.{points};
+use limits::MOST_BYTES;
 use limits::MOST_FLAGS;
 use limits::MOST_LINES;
 use limits::MOST_LINKS;
@@ -464,4 +466,138 @@ fn edges_fit(starts: &[u16; 257], lines: usize, edges: [MstEdge; 255], count: us
         i += 1;
     }
     true
+}
+
+// The reader's answer to a file: the number of the first check that holds, or that none does.
+pub enum Verdict {
+    Refused(u8),
+    Accepted,
+}
+
+// A drawing in flat arrays, each filled up with zeros behind what it holds. Line i's points are those
+// from starts[i] to starts[i + 1], each coordinate by its place on the grid.
+pub struct Drawing {
+    pub settings: Settings,
+    pub lines: usize,
+    pub starts: [u16; 257],
+    pub points: usize,
+    pub xs: [u32; 1024],
+    pub ys: [u32; 1024],
+    pub link_count: usize,
+    pub links: [MstEdge; 255],
+}
+
+// The verdict, and the drawing of an accepted file; of a refused one, a drawing with nothing in it.
+pub struct Reading {
+    pub verdict: Verdict,
+    pub drawing: Drawing,
+}
+
+// The first of checks 1 to 7 that holds, and 0 where none does. Each covers the whole file.
+fn first_refusal(file: &[u8]) -> u8
+    ensures { λ r. ⌜ r ≡ firstSeven (now (file .entry)) ⌝ }
+{
+    if MOST_BYTES < file.len() {
+        return 1;
+    }
+    let cut = records::is_cut(file);
+    if cut {
+        return 2;
+    }
+    let t = tally_of(file);
+    let order = t.order;
+    let in_order = order_fits(order);
+    if !in_order {
+        return 3;
+    }
+    let long = t.lengths;
+    if !long {
+        return 4;
+    }
+    let settings = settings_fit(settings_of(file, 0));
+    if !settings {
+        return 5;
+    }
+    let few = counts_fit(t.lines, t.points, t.links);
+    if !few {
+        return 6;
+    }
+    let on = coordinates_fit(file);
+    if !on {
+        return 7;
+    }
+    0
+}
+
+fn no_drawing() -> Drawing
+    ensures { λ r. ⌜ r ≡ drawingHeld noDrawing ⌝ }
+{
+    let settings = no_settings();
+    let links = [no_edge(); 255];
+    Drawing {
+        settings,
+        lines: 0,
+        starts: [0u16; 257],
+        points: 0,
+        xs: [0u32; 1024],
+        ys: [0u32; 1024],
+        link_count: 0,
+        links,
+    }
+}
+
+fn refused(number: u8) -> Reading
+    ensures { λ r. ⌜ r ≡ refusedAs number ⌝ }
+{
+    let drawing = no_drawing();
+    Reading {
+        verdict: Verdict::Refused(number),
+        drawing,
+    }
+}
+
+// The drawing of a file that none of checks 1 to 7 refuses: the settings' record has 16 bytes, and
+// the lines start behind it.
+fn drawing_of(file: &[u8]) -> Drawing
+    requires { ⌜ Passed (now file) ⌝ }
+    ensures { λ r. ⌜ r ≡ drawingHeld (drawingOf (recordsOf (now (file .entry)))) ⌝ }
+{
+    let t = tally_of(file);
+    let settings = settings_of(file, 0);
+    let lines = read_lines(file, 16, t.lines);
+    let links = read_links(file, lines.end, t.links);
+    let starts = lines.starts;
+    let xs = lines.xs;
+    let ys = lines.ys;
+    Drawing {
+        settings,
+        lines: t.lines,
+        starts,
+        points: t.points,
+        xs,
+        ys,
+        link_count: t.links,
+        links,
+    }
+}
+
+// Reads a drawing file, whatever its bytes are.
+pub fn read(file: &[u8]) -> Reading
+    ensures { λ r. ⌜ r ≡ readingOf (now (file .entry)) ⌝ }
+{
+    let number = first_refusal(file);
+    if number != 0 {
+        return refused(number);
+    }
+    let drawing = drawing_of(file);
+    let starts = drawing.starts;
+    let links = drawing.links;
+    let fit = edges_fit(&starts, drawing.lines, links, drawing.link_count);
+    if !fit {
+        return refused(8);
+    }
+    Reading {
+        verdict: Verdict::Accepted,
+        drawing,
+    }
 }
