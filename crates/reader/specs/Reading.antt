@@ -235,3 +235,17 @@ module _ (file : List ℕ) where
     pub accepted-as : (d : Drawing) → linksFit (drawingOf (recordsOf file)) ≡ true → d ≡ drawingHeld (drawingOf (recordsOf file)) → _≡_ {A = Reading} (record { verdict = Accepted; drawing = d }) (readingOf file)
     unfolding eighth refusal.verdict
     accepted-as d h i = ap (λ (d : Drawing). record { verdict = Accepted; drawing = d }) i ∙ sym (reading-is file refusal.accepted (then-eighth ∙ rw h))
+
+-- ---- the verdict as a number, 0 for none
+
+abbrev pub numberIn : Verdict → ℕ
+numberIn (Refused n) = n
+numberIn Accepted = 0
+
+pub number-is : (file : List ℕ) → numberIn (readingOf file .verdict) ≡ numberOf (refusal.verdict (readConditions file))
+unfolding readingOf
+number-is file = go (refusal.verdict (readConditions file))
+  where
+    go : (v : refusal.Verdict) → numberIn (verdictFrom v) ≡ numberOf v
+    go (refusal.refused n) = refl
+    go refusal.accepted = refl
