@@ -61,14 +61,14 @@ fn wide(byte: u8) -> u16
 }
 
 // The numbers in 1, 2, 4 and 8 bytes at a place.
-pub fn number1(file: &[u8], at: usize) -> u8
+fn number1(file: &[u8], at: usize) -> u8
     requires { ⌜ at + 1 ≤ length (now file) ⌝ }
     ensures { λ r. ⌜ r ≡ number 1 (drop at (now (file .entry))) ⌝ }
 {
     file[at]
 }
 
-pub fn number2(file: &[u8], at: usize) -> u16
+fn number2(file: &[u8], at: usize) -> u16
     requires { ⌜ at + 2 ≤ length (now file) ⌝ }
     ensures { λ r. ⌜ r ≡ number 2 (drop at (now (file .entry))) ⌝ }
 {
@@ -77,7 +77,7 @@ pub fn number2(file: &[u8], at: usize) -> u16
     low + 256 * high
 }
 
-pub fn number4(file: &[u8], at: usize) -> u32
+fn number4(file: &[u8], at: usize) -> u32
     requires { ⌜ at + 4 ≤ length (now file) ⌝ }
     ensures { λ r. ⌜ r ≡ number 4 (drop at (now (file .entry))) ⌝ }
 {
@@ -86,7 +86,7 @@ pub fn number4(file: &[u8], at: usize) -> u32
     low as u32 + 65536 * (high as u32)
 }
 
-pub fn number8(file: &[u8], at: usize) -> u64
+fn number8(file: &[u8], at: usize) -> u64
     requires { ⌜ at + 8 ≤ length (now file) ⌝ }
     ensures { λ r. ⌜ r ≡ number 8 (drop at (now (file .entry))) ⌝ }
 {
@@ -197,7 +197,7 @@ fn edge_at(file: &[u8], at: usize) -> MstEdge
 }
 
 // Whether a record stands whole at a place.
-fn whole_at(file: &[u8], at: usize) -> bool
+pub fn whole_at(file: &[u8], at: usize) -> bool
     ensures { λ r. ⌜ r ≡ wholeAt (now (file .entry)) at ⌝ }
 {
     if file.len() < at {
