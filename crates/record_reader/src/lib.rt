@@ -46,3 +46,14 @@ pub fn body<'a>(r: RecordReader<'a>) -> &'a [u8]
 {
     body_part(r.file, r.at)
 }
+
+// The reader at the next record: the same bytes, and the place behind the record that it stood at.
+pub fn behind<'a>(r: RecordReader<'a>) -> RecordReader<'a>
+    ensures { λ q. ⌜ (q .file ≡ r .entry .file) × (q .at ≡ nextPlace (now (r .entry .file)) (r .entry .at)) ⌝ }
+{
+    let next = next_place(r.file, r.at);
+    RecordReader {
+        file: r.file,
+        at: next,
+    }
+}
