@@ -65,6 +65,16 @@ same-drawing : (s s' : Settings) (n n' q q' m m' : ℕ) (a a' x x' y y' : List �
     → _≡_ {A = Drawing} (record { settings = s; lines = n; starts = a; points = q; xs = x; ys = y; «link_count» = m; links = k }) (record { settings = s'; lines = n'; starts = a'; points = q'; xs = x'; ys = y'; «link_count» = m'; links = k' })
 same-drawing s s' n n' q q' m m' a a' x x' y y' k k' es en eq em ea ex ey ek = cc
 
+-- an array that a loop filled is the list with zeros behind it
+filled-as : {A : Type 0} (n : ℕ) (z : A) (a vs ws : List A) → a ≡ sets (replicate n z) 0 vs → vs ≡ ws → length ws ≤ n → a ≡ padded n z ws
+filled-as n z a vs ws e i h = e ∙ ap (sets (replicate n z) 0) i ∙ sets-padded n z ws h
+
+places-as : (g : drawn.Point → ℕ) (ls ms : List (List drawn.Point)) (a : List ℕ) → a ≡ sets (replicate 1024 0) 0 (map g (flat ls)) → ls ≡ ms → total (map (λ (l : List drawn.Point). length l) ms) ≤ 1024 → a ≡ padded 1024 0 (map g (flat ms))
+places-as g ls ms a e i h = filled-as 1024 0 a (map g (flat ls)) (map g (flat ms)) e (ap (λ (ls : List (List drawn.Point)). map g (flat ls)) i) (rw (length-map g (flat ms), length-flat ms) h)
+
+starts-as : (ls ms : List (List drawn.Point)) (a : List ℕ) → a ≡ sets (replicate 257 0) 1 (endsFrom 0 ls) → ls ≡ ms → length ms ≤ 256 → a ≡ padded 257 0 (0 ∷ endsFrom 0 ms)
+starts-as ls ms a e i h = let m = length-ends 0 ms in filled-as 257 0 a (0 ∷ endsFrom 0 ls) (0 ∷ endsFrom 0 ms) e (ap (λ (ls : List (List drawn.Point)). 0 ∷ endsFrom 0 ls) i) (omega arith)
+
 module _ (file : List ℕ) (p : Passed file) (t : Tally) (e : t ≡ tallied (recordsOf file) noTally) where
   pub lines-ready : AtLines file 16 (t .lines)
   unfolding drawingOf
@@ -98,25 +108,13 @@ module _ (file : List ℕ) (p : Passed file) (t : Tally) (e : t ≡ tallied (rec
       let w = p .is-whole in
       let lines-are : linesFrom file 16 ≡ map lineOf (bodies 2 rs) = ap (map lineOf) (sym (bodies-behind file w (p .in-order) (p .long) 2 (λ q. omega arith))) in
       let links-are : edgesFrom file (r .end) ≡ map edgeFrom (map linkOf (bodies 3 rs)) = ap (λ (bs : List (List ℕ)). map edgeFrom (map linkOf bs)) (l .same-links ∙ sym (bodies-behind file w (p .in-order) (p .long) 3 (λ q. omega arith))) in
-      let settings : s ≡ settingsFrom (d .settings) = i ∙ settings-read file w (p .in-order) (p .long) in
-      let lines = lines-tally rs t e in
-      let points : t .points ≡ length (flat (map lineOf (bodies 2 rs))) = points-tally rs t e ∙ sym (length-flat (map lineOf (bodies 2 rs))) in
-      let links = links-tally rs t e in
-      let m = length-ends 0 (map lineOf (bodies 2 rs)) in
-      let few-x : length (xsOf (flat (map lineOf (bodies 2 rs)))) ≤ 1024 = rw (length-map (λ (p : drawn.Point). p .x) (flat (map lineOf (bodies 2 rs))), length-flat (map lineOf (bodies 2 rs))) (f .1) in
-      let few-y : length (ysOf (flat (map lineOf (bodies 2 rs)))) ≤ 1024 = rw (length-map (λ (p : drawn.Point). p .y) (flat (map lineOf (bodies 2 rs))), length-flat (map lineOf (bodies 2 rs))) (f .1) in
       let few-e : length (map edgeFrom (map linkOf (bodies 3 rs))) ≤ 255 = rw (length-map edgeFrom (map linkOf (bodies 3 rs))) (f .2) in
-      let f0 = f .0 in
-      let starts : r .starts ≡ padded 257 0 (0 ∷ endsFrom 0 (map lineOf (bodies 2 rs))) =
-      l .starts-are ∙ ap (λ (ls : List (List drawn.Point)). sets (replicate 257 0) 1 (endsFrom 0 ls)) lines-are ∙ sets-padded 257 0 (0 ∷ endsFrom 0 (map lineOf (bodies 2 rs))) (omega arith) in
-      let xs : r .xs ≡ padded 1024 0 (xsOf (flat (map lineOf (bodies 2 rs)))) =
-      l .xs-are ∙ ap (λ (ls : List (List drawn.Point)). sets (replicate 1024 0) 0 (xsOf (flat ls))) lines-are ∙ sets-padded 1024 0 (xsOf (flat (map lineOf (bodies 2 rs)))) few-x in
-      let ys : r .ys ≡ padded 1024 0 (ysOf (flat (map lineOf (bodies 2 rs)))) =
-      l .ys-are ∙ ap (λ (ls : List (List drawn.Point)). sets (replicate 1024 0) 0 (ysOf (flat ls))) lines-are ∙ sets-padded 1024 0 (ysOf (flat (map lineOf (bodies 2 rs)))) few-y in
-      let es : edges ≡ padded 255 noEdge (map edgeFrom (map linkOf (bodies 3 rs))) =
-      k ∙ ap (sets (replicate 255 noEdge) 0) links-are ∙ sets-padded 255 noEdge (map edgeFrom (map linkOf (bodies 3 rs))) few-e in
       same-drawing s (settingsFrom (d .settings)) (t .lines) (length (d .lines)) (t .points) (length (flat (d .lines))) (t .links) (length (d .links)) (r .starts) (padded 257 0 (0 ∷ endsFrom 0 (d .lines))) (r .xs) (padded 1024 0 (xsOf (flat (d .lines)))) (r .ys) (padded 1024 0 (ysOf (flat (d .lines)))) edges (padded 255 noEdge (map edgeFrom (d .links)))
-      settings lines points links starts xs ys es
+      (i ∙ settings-read file w (p .in-order) (p .long)) (lines-tally rs t e) (points-tally rs t e ∙ sym (length-flat (d .lines))) (links-tally rs t e)
+      (starts-as (linesFrom file 16) (d .lines) (r .starts) (l .starts-are) lines-are (f .0))
+      (places-as (λ (p : drawn.Point). p .x) (linesFrom file 16) (d .lines) (r .xs) (l .xs-are) lines-are (f .1))
+      (places-as (λ (p : drawn.Point). p .y) (linesFrom file 16) (d .lines) (r .ys) (l .ys-are) lines-are (f .1))
+      (filled-as 255 noEdge edges (edgesFrom file (r .end)) (map edgeFrom (d .links)) k links-are few-e)
 
 -- ---- check 8 on it
 
