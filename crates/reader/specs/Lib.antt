@@ -10,3 +10,4 @@ pub mod Fit
 pub mod First
 pub mod Reading
 pub mod Whole
+pub mod Back

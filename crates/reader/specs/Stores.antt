@@ -49,7 +49,7 @@ module _ {A : Type 0} where
   sets-padded n z vs h =
       sets-eq vs (replicate n z) 0 (rw length-replicate (omega arith)) ∙ ap (λ (r : List A). vs ++ r) (ap (λ (k : ℕ). drop k (replicate n z)) (zero-add (length vs)) ∙ drop-replicate (length vs) n z)
 
-map-append : {A B : Type 0} (f : A → B) (a b : List A) → map f (a ++ b) ≡ map f a ++ map f b
+pub map-append : {A B : Type 0} (f : A → B) (a b : List A) → map f (a ++ b) ≡ map f a ++ map f b
 map-append f [] b = refl
 map-append f (x ∷ a) b = ap (λ l. f x ∷ l) (map-append f a b)
 
