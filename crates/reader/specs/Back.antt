@@ -12,6 +12,7 @@ use lib.Dec.{T}
 use lib.Ieee.{Float, nan, inf, fin, up, down, binary64, round, fits, ofBits, toBits}
 use lib.Ieee.Fits.{round-fits}
 use lib.Ieee.Bits.{ofBits-toBits}
+use Rattle.limits.specs.Limits.{mostLines, mostPoints, mostLinks}
 use Rattle.grid.specs.Grid.{gridExponent, originOfGrid, origin, placeOfSteps, placeOnGrid, placeOf, readPlace, coordinate, writePlace}
 use Rattle.grid.specs.Same.{passed}
 use Rattle.grid.specs.Back.{read-is, write-is, coordinate-is, read-write}
@@ -158,12 +159,12 @@ unfolding drawingFrom drawingHeld drawingOf
 drawing-back rs =
     let ls = map lineOf (bodies 2 rs) in
     let bs = bodies 3 rs in
-    let lines-are : linesBack (length ls) 0 (padded 257 0 (0 ∷ endsFrom 0 ls)) (padded 1024 0 (xsOf (flat ls))) (padded 1024 0 (ysOf (flat ls))) ≡ ls =
-    lines-back ls 0 0 (padded 257 0 (0 ∷ endsFrom 0 ls)) (padded 1024 0 (xsOf (flat ls))) (padded 1024 0 (ysOf (flat ls))) (replicate (257 - length (0 ∷ endsFrom 0 ls)) 0) (replicate (1024 - length (xsOf (flat ls))) 0) (replicate (1024 - length (ysOf (flat ls))) 0) refl refl refl in
-    let links-are : linksBack (length (map linkOf bs)) 0 (padded 255 noEdge (map edgeFrom (map linkOf bs))) ≡ map linkOf bs =
-    ap (λ (n : ℕ). linksBack n 0 (padded 255 noEdge (map edgeFrom (map linkOf bs)))) (length-map linkOf bs)
-    ∙ links-back bs 0 (padded 255 noEdge (map edgeFrom (map linkOf bs))) (replicate (255 - length (map edgeFrom (map linkOf bs))) noEdge) refl in
-    ap (λ (ms : List (List drawn.Point)). record { settings = settingsOf (getD (bodies 1 rs) 0 []); lines = ms; links = linksBack (length (map linkOf bs)) 0 (padded 255 noEdge (map edgeFrom (map linkOf bs))) }) lines-are
+    let lines-are : linesBack (length ls) 0 (padded (mostLines + 1) 0 (0 ∷ endsFrom 0 ls)) (padded mostPoints 0 (xsOf (flat ls))) (padded mostPoints 0 (ysOf (flat ls))) ≡ ls =
+    lines-back ls 0 0 (padded (mostLines + 1) 0 (0 ∷ endsFrom 0 ls)) (padded mostPoints 0 (xsOf (flat ls))) (padded mostPoints 0 (ysOf (flat ls))) (replicate ((mostLines + 1) - length (0 ∷ endsFrom 0 ls)) 0) (replicate (mostPoints - length (xsOf (flat ls))) 0) (replicate (mostPoints - length (ysOf (flat ls))) 0) refl refl refl in
+    let links-are : linksBack (length (map linkOf bs)) 0 (padded mostLinks noEdge (map edgeFrom (map linkOf bs))) ≡ map linkOf bs =
+    ap (λ (n : ℕ). linksBack n 0 (padded mostLinks noEdge (map edgeFrom (map linkOf bs)))) (length-map linkOf bs)
+    ∙ links-back bs 0 (padded mostLinks noEdge (map edgeFrom (map linkOf bs))) (replicate (mostLinks - length (map edgeFrom (map linkOf bs))) noEdge) refl in
+    ap (λ (ms : List (List drawn.Point)). record { settings = settingsOf (getD (bodies 1 rs) 0 []); lines = ms; links = linksBack (length (map linkOf bs)) 0 (padded mostLinks noEdge (map edgeFrom (map linkOf bs))) }) lines-are
     ∙ ap (λ (ks : List drawn.Link). record { settings = settingsOf (getD (bodies 1 rs) 0 []); lines = ls; links = ks }) links-are
 
 -- what an accepted file's reading holds is the drawing that the definitions give for the file

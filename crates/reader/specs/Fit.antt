@@ -10,6 +10,7 @@ use lib.ListN.{length, getD, take, drop, replicate, length-replicate, List·getD
 use lib.Dec.{leb, ltb}
 use lib.Seq.{sets, sets-eq, getD-drop, drop-drop}
 use borrow.Author.Tests.{lt-ltb, le-ltb, ltb-true, ltb-false}
+use Rattle.limits.specs.Limits.{mostLines, mostLinks}
 use Rattle.drawing.specs.Drawing.{Point, End, Link, Drawing}
 use Rattle.drawing.specs.Read.{every, endFits, linksFit}
 use Rattle.records.specs.Body.{edgeFrom}
@@ -75,22 +76,22 @@ ends-at k [] rest i h = absurd (omega arith)
 ends-at k (l ∷ ls) rest zero h = refl
 ends-at k (l ∷ ls) rest (suc i) h = ends-at (k + length l) ls rest i (omega arith)
 
-module _ (ls : List (List Point)) (few : length ls ≤ 256) where
-  starts-are : sets (replicate 257 0) 1 (endsFrom 0 ls) ≡ 0 ∷ endsFrom 0 ls ++ drop (1 + length (endsFrom 0 ls)) (replicate 257 0)
-  starts-are = let l = length-ends 0 ls in sets-eq (endsFrom 0 ls) (replicate 257 0) 1 (rw length-replicate (omega arith))
+module _ (ls : List (List Point)) (few : length ls ≤ mostLines) where
+  starts-are : sets (replicate (mostLines + 1) 0) 1 (endsFrom 0 ls) ≡ 0 ∷ endsFrom 0 ls ++ drop (1 + length (endsFrom 0 ls)) (replicate (mostLines + 1) 0)
+  starts-are = let l = length-ends 0 ls in sets-eq (endsFrom 0 ls) (replicate (mostLines + 1) 0) 1 (rw length-replicate (omega arith))
 
-  line-points : (i : ℕ) → i < length ls → getD (sets (replicate 257 0) 1 (endsFrom 0 ls)) (i + 1) 0 ≡ getD (sets (replicate 257 0) 1 (endsFrom 0 ls)) i 0 + length (getD ls i [])
+  line-points : (i : ℕ) → i < length ls → getD (sets (replicate (mostLines + 1) 0) 1 (endsFrom 0 ls)) (i + 1) 0 ≡ getD (sets (replicate (mostLines + 1) 0) 1 (endsFrom 0 ls)) i 0 + length (getD ls i [])
   line-points i h =
       ap (λ (l : List ℕ). getD l (i + 1) 0) starts-are
-      ∙ ap (λ (k : ℕ). getD (0 ∷ endsFrom 0 ls ++ drop (1 + length (endsFrom 0 ls)) (replicate 257 0)) k 0) (add-one i)
-      ∙ ends-at 0 ls (drop (1 + length (endsFrom 0 ls)) (replicate 257 0)) i h
+      ∙ ap (λ (k : ℕ). getD (0 ∷ endsFrom 0 ls ++ drop (1 + length (endsFrom 0 ls)) (replicate (mostLines + 1) 0)) k 0) (add-one i)
+      ∙ ends-at 0 ls (drop (1 + length (endsFrom 0 ls)) (replicate (mostLines + 1) 0)) i h
       ∙ ap (λ (l : List ℕ). getD l i 0 + length (getD ls i [])) (sym starts-are)
 
   more : (a n : ℕ) (b : Bool) → ltb 0 n ≡ b → ltb a (a + n) ≡ ltb 0 n
   more a n true e = let h = ltb-true 0 n e in lt-ltb a (a + n) (omega arith) ∙ sym e
   more a n false e = let h = ltb-false 0 n e in le-ltb a (a + n) (omega arith) ∙ sym e
 
-  end-is : (e : End) → endHeld (sets (replicate 257 0) 1 (endsFrom 0 ls)) (length ls) (e .line) (e .segment) ≡ endFits ls e
+  end-is : (e : End) → endHeld (sets (replicate (mostLines + 1) 0) 1 (endsFrom 0 ls)) (length ls) (e .line) (e .segment) ≡ endFits ls e
   unfolding endHeld endFits
   end-is e = go (ltb (e .line) (length ls)) refl
     where
@@ -98,7 +99,7 @@ module _ (ls : List (List Point)) (few : length ls ≤ 256) where
       i = e .line
 
       starts : List ℕ
-      starts = sets (replicate 257 0) 1 (endsFrom 0 ls)
+      starts = sets (replicate (mostLines + 1) 0) 1 (endsFrom 0 ls)
 
       go : (b : Bool) → ltb i (length ls) ≡ b → endHeld starts (length ls) i (e .segment) ≡ endFits ls e
       go true h =
@@ -110,8 +111,8 @@ module _ (ls : List (List Point)) (few : length ls ≤ 256) where
           rw (h, p, more a n (ltb 0 n) refl, d)
       go false h = rw (h, ap length (List·getD-eq-default ls [] {n = i} (ltb-false i (length ls) h)))
 
-every-edge : (ls : List (List Point)) → length ls ≤ 256 → (ks : List Link) (edges rest : List MstEdge) (i : ℕ) → drop i edges ≡ map edgeFrom ks ++ rest
-    → edgesHeld (sets (replicate 257 0) 1 (endsFrom 0 ls)) (length ls) edges (length ks) i ≡ every (λ (l : Link). endFits ls (l .first) && endFits ls (l .second)) ks
+every-edge : (ls : List (List Point)) → length ls ≤ mostLines → (ks : List Link) (edges rest : List MstEdge) (i : ℕ) → drop i edges ≡ map edgeFrom ks ++ rest
+    → edgesHeld (sets (replicate (mostLines + 1) 0) 1 (endsFrom 0 ls)) (length ls) edges (length ks) i ≡ every (λ (l : Link). endFits ls (l .first) && endFits ls (l .second)) ks
 unfolding edgesHeld every
 every-edge ls few [] edges rest i e = refl
 every-edge ls few (k ∷ ks) edges rest i e =
@@ -119,12 +120,12 @@ every-edge ls few (k ∷ ks) edges rest i e =
     let there : drop (suc i) edges ≡ map edgeFrom ks ++ rest = ap (λ (j : ℕ). drop j edges) (sym (add-one i)) ∙ sym (drop-drop 1 i edges) ∙ ap (drop 1) e in
     rw (here, end-is ls few (k .first), end-is ls few (k .second), every-edge ls few ks edges rest (suc i) there)
 
-pub links-are : (d : Drawing) → length (d .lines) ≤ 256 → length (d .links) ≤ 255
-    → edgesHeld (sets (replicate 257 0) 1 (endsFrom 0 (d .lines))) (length (d .lines)) (sets (replicate 255 noEdge) 0 (map edgeFrom (d .links))) (length (d .links)) 0 ≡ linksFit d
+pub links-are : (d : Drawing) → length (d .lines) ≤ mostLines → length (d .links) ≤ mostLinks
+    → edgesHeld (sets (replicate (mostLines + 1) 0) 1 (endsFrom 0 (d .lines))) (length (d .lines)) (sets (replicate mostLinks noEdge) 0 (map edgeFrom (d .links))) (length (d .links)) 0 ≡ linksFit d
 unfolding linksFit
 links-are d l k =
-    every-edge (d .lines) l (d .links) (sets (replicate 255 noEdge) 0 (map edgeFrom (d .links))) (drop (0 + length (map edgeFrom (d .links))) (replicate 255 noEdge)) 0
-    (let m = long (d .links) in sets-eq (map edgeFrom (d .links)) (replicate 255 noEdge) 0 (rw length-replicate (omega arith)))
+    every-edge (d .lines) l (d .links) (sets (replicate mostLinks noEdge) 0 (map edgeFrom (d .links))) (drop (0 + length (map edgeFrom (d .links))) (replicate mostLinks noEdge)) 0
+    (let m = long (d .links) in sets-eq (map edgeFrom (d .links)) (replicate mostLinks noEdge) 0 (rw length-replicate (omega arith)))
   where
     long : (ks : List Link) → length (map edgeFrom ks) ≡ length ks
     long [] = refl

@@ -9,8 +9,8 @@ use mathlib.Core.Bool.{Bool, true, false, _&&_}
 use lib.ListN.{length, getD, take, drop, set, replicate}
 use lib.Seq.{sets, drop-drop}
 use borrow.Author.Tests.{le-leb}
-use Rattle.grid.specs.Grid.{readPlace}
 use Rattle.limits.specs.Limits.{mostLines, mostPoints}
+use Rattle.grid.specs.Grid.{readPlace}
 use Rattle.drawing.specs.Bytes.{number}
 use Rattle.drawing.specs.Drawing.{Point}
 use Rattle.drawing.specs.Read.{Record, placeAt, points, lineOf, bodies, total, linesThenLinks, lengthsFit}
@@ -89,9 +89,9 @@ pub record AtLines (file : List ℕ) (at count : ℕ) : Type 0 where
 
 -- the lines in the arrays, and the place where the links start
 pub record LinesRead (file : List ℕ) (start : ℕ) (r : Lines) : Type 0 where
-  pub starts-are : r .starts ≡ sets (replicate 257 0) 1 (endsFrom 0 (linesFrom file start))
-  pub xs-are : r .xs ≡ sets (replicate 1024 0) 0 (xsOf (flat (linesFrom file start)))
-  pub ys-are : r .ys ≡ sets (replicate 1024 0) 0 (ysOf (flat (linesFrom file start)))
+  pub starts-are : r .starts ≡ sets (replicate (mostLines + 1) 0) 1 (endsFrom 0 (linesFrom file start))
+  pub xs-are : r .xs ≡ sets (replicate mostPoints 0) 0 (xsOf (flat (linesFrom file start)))
+  pub ys-are : r .ys ≡ sets (replicate mostPoints 0) 0 (ysOf (flat (linesFrom file start)))
   pub end-inside : r .end ≤ length file
   pub end-whole : cutFrom file (r .end) ≡ false
   pub links-left : allLinks (recordsFrom file (r .end)) ≡ true
@@ -148,11 +148,11 @@ pub record Filling (file : List ℕ) (start count at line filled : ℕ) (starts 
   pub left : line + length (bodies 2 (recordsFrom file at)) ≡ count
   pub few-points : filled + pointsIn (bodies 2 (recordsFrom file at)) ≤ mostPoints
   pub same-links : bodies 3 (recordsFrom file at) ≡ bodies 3 (recordsFrom file start)
-  pub same-starts : sets starts (line + 1) (endsFrom filled (linesFrom file at)) ≡ sets (replicate 257 0) 1 (endsFrom 0 (linesFrom file start))
-  pub same-xs : sets xs filled (xsOf (flat (linesFrom file at))) ≡ sets (replicate 1024 0) 0 (xsOf (flat (linesFrom file start)))
-  pub same-ys : sets ys filled (ysOf (flat (linesFrom file at))) ≡ sets (replicate 1024 0) 0 (ysOf (flat (linesFrom file start)))
+  pub same-starts : sets starts (line + 1) (endsFrom filled (linesFrom file at)) ≡ sets (replicate (mostLines + 1) 0) 1 (endsFrom 0 (linesFrom file start))
+  pub same-xs : sets xs filled (xsOf (flat (linesFrom file at))) ≡ sets (replicate mostPoints 0) 0 (xsOf (flat (linesFrom file start)))
+  pub same-ys : sets ys filled (ysOf (flat (linesFrom file at))) ≡ sets (replicate mostPoints 0) 0 (ysOf (flat (linesFrom file start)))
 
-pub fill-start : (file : List ℕ) (start count : ℕ) → AtLines file start count → Filling file start count start 0 0 (replicate 257 0) (replicate 1024 0) (replicate 1024 0)
+pub fill-start : (file : List ℕ) (start count : ℕ) → AtLines file start count → Filling file start count start 0 0 (replicate (mostLines + 1) 0) (replicate mostPoints 0) (replicate mostPoints 0)
 fill-start file start count a =
     let n = a .counted in
     let p = a .few-points in
@@ -243,7 +243,7 @@ module _ (file : List ℕ) (start count at line filled : ℕ) (starts xs ys : Li
       ∙ sym (ap (λ (ls : List (List Point)). sets now filled (map g (flat ls))) lines-are)
       ∙ e
 
-  next-starts : sets (set starts (line + 1) (filled + s .points)) (line + 1 + 1) (endsFrom (filled + s .points) (linesFrom file (nextAt file at))) ≡ sets (replicate 257 0) 1 (endsFrom 0 (linesFrom file start))
+  next-starts : sets (set starts (line + 1) (filled + s .points)) (line + 1 + 1) (endsFrom (filled + s .points) (linesFrom file (nextAt file at))) ≡ sets (replicate (mostLines + 1) 0) 1 (endsFrom 0 (linesFrom file start))
   unfolding endsFrom
   next-starts =
       ap (λ (k : ℕ). sets (set starts (line + 1) (filled + s .points)) k (endsFrom (filled + s .points) (linesFrom file (nextAt file at)))) (add-one (line + 1))
@@ -271,6 +271,6 @@ module _ (file : List ℕ) (start count at line filled : ℕ) (starts xs ys : Li
         few-points = omega arith;
         same-links = sym (links-here file at w (f .in-order) (f .lengths-fit) some) ∙ f .same-links;
         same-starts = next-starts;
-        same-xs = ap (λ (now : List ℕ). sets now (filled + s .points) (xsOf (flat (linesFrom file (nextAt file at))))) ex ∙ next-x (λ (p : Point). p .x) xs (sets (replicate 1024 0) 0 (xsOf (flat (linesFrom file start)))) (f .same-xs);
-        same-ys = ap (λ (now : List ℕ). sets now (filled + s .points) (ysOf (flat (linesFrom file (nextAt file at))))) ey ∙ next-x (λ (p : Point). p .y) ys (sets (replicate 1024 0) 0 (ysOf (flat (linesFrom file start)))) (f .same-ys);
+        same-xs = ap (λ (now : List ℕ). sets now (filled + s .points) (xsOf (flat (linesFrom file (nextAt file at))))) ex ∙ next-x (λ (p : Point). p .x) xs (sets (replicate mostPoints 0) 0 (xsOf (flat (linesFrom file start)))) (f .same-xs);
+        same-ys = ap (λ (now : List ℕ). sets now (filled + s .points) (ysOf (flat (linesFrom file (nextAt file at))))) ey ∙ next-x (λ (p : Point). p .y) ys (sets (replicate mostPoints 0) 0 (ysOf (flat (linesFrom file start)))) (f .same-ys);
       })

@@ -67,9 +67,9 @@ pub record Linking (file : List ℕ) (start count at link : ℕ) (edges : List M
   pub only-links : allLinks (recordsFrom file at) ≡ true
   pub lengths-fit : lengthsFit (recordsFrom file at) ≡ true
   pub left : link + length (bodies 3 (recordsFrom file at)) ≡ count
-  pub same : sets edges link (edgesFrom file at) ≡ sets (replicate 255 noEdge) 0 (edgesFrom file start)
+  pub same : sets edges link (edgesFrom file at) ≡ sets (replicate mostLinks noEdge) 0 (edgesFrom file start)
 
-pub link-start : (file : List ℕ) (start count : ℕ) (e : MstEdge) → AtLinks file start count → e ≡ noEdge → Linking file start count start 0 (replicate 255 e)
+pub link-start : (file : List ℕ) (start count : ℕ) (e : MstEdge) → AtLinks file start count → e ≡ noEdge → Linking file start count start 0 (replicate mostLinks e)
 link-start file start count e a z =
     let n = a .counted in
     record {
@@ -78,11 +78,11 @@ link-start file start count e a z =
       only-links = a .only-links;
       lengths-fit = a .lengths-fit;
       left = omega arith;
-      same = ap (λ (e : MstEdge). sets (replicate 255 e) 0 (edgesFrom file start)) z;
+      same = ap (λ (e : MstEdge). sets (replicate mostLinks e) 0 (edgesFrom file start)) z;
     }
 
 module _ (file : List ℕ) (start count at link : ℕ) (edges : List MstEdge) (f : Linking file start count at link edges) where
-  pub link-end : count ≤ link → edges ≡ sets (replicate 255 noEdge) 0 (edgesFrom file start)
+  pub link-end : count ≤ link → edges ≡ sets (replicate mostLinks noEdge) 0 (edgesFrom file start)
   link-end h =
       let l = f .left in
       sym (ap (sets edges link) (none (bodies 3 (recordsFrom file at)) (omega arith))) ∙ f .same

@@ -33,12 +33,12 @@ unfoldable pub drawingHeld : drawn.Drawing → Drawing
 drawingHeld d = record {
   settings = settingsFrom (d .settings);
   lines = length (d .lines);
-  starts = padded 257 0 (0 ∷ endsFrom 0 (d .lines));
+  starts = padded (mostLines + 1) 0 (0 ∷ endsFrom 0 (d .lines));
   points = length (flat (d .lines));
-  xs = padded 1024 0 (xsOf (flat (d .lines)));
-  ys = padded 1024 0 (ysOf (flat (d .lines)));
+  xs = padded mostPoints 0 (xsOf (flat (d .lines)));
+  ys = padded mostPoints 0 (ysOf (flat (d .lines)));
   «link_count» = length (d .links);
-  links = padded 255 noEdge (map edgeFrom (d .links));
+  links = padded mostLinks noEdge (map edgeFrom (d .links));
 }
 
 abbrev pub noDrawing : drawn.Drawing

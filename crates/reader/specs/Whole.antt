@@ -69,11 +69,11 @@ same-drawing s s' n n' q q' m m' a a' x x' y y' k k' es en eq em ea ex ey ek = c
 filled-as : {A : Type 0} (n : ℕ) (z : A) (a vs ws : List A) → a ≡ sets (replicate n z) 0 vs → vs ≡ ws → length ws ≤ n → a ≡ padded n z ws
 filled-as n z a vs ws e i h = e ∙ ap (sets (replicate n z) 0) i ∙ sets-padded n z ws h
 
-places-as : (g : drawn.Point → ℕ) (ls ms : List (List drawn.Point)) (a : List ℕ) → a ≡ sets (replicate 1024 0) 0 (map g (flat ls)) → ls ≡ ms → total (map (λ (l : List drawn.Point). length l) ms) ≤ 1024 → a ≡ padded 1024 0 (map g (flat ms))
-places-as g ls ms a e i h = filled-as 1024 0 a (map g (flat ls)) (map g (flat ms)) e (ap (λ (ls : List (List drawn.Point)). map g (flat ls)) i) (rw (length-map g (flat ms), length-flat ms) h)
+places-as : (g : drawn.Point → ℕ) (ls ms : List (List drawn.Point)) (a : List ℕ) → a ≡ sets (replicate mostPoints 0) 0 (map g (flat ls)) → ls ≡ ms → total (map (λ (l : List drawn.Point). length l) ms) ≤ mostPoints → a ≡ padded mostPoints 0 (map g (flat ms))
+places-as g ls ms a e i h = filled-as mostPoints 0 a (map g (flat ls)) (map g (flat ms)) e (ap (λ (ls : List (List drawn.Point)). map g (flat ls)) i) (rw (length-map g (flat ms), length-flat ms) h)
 
-starts-as : (ls ms : List (List drawn.Point)) (a : List ℕ) → a ≡ sets (replicate 257 0) 1 (endsFrom 0 ls) → ls ≡ ms → length ms ≤ 256 → a ≡ padded 257 0 (0 ∷ endsFrom 0 ms)
-starts-as ls ms a e i h = let m = length-ends 0 ms in filled-as 257 0 a (0 ∷ endsFrom 0 ls) (0 ∷ endsFrom 0 ms) e (ap (λ (ls : List (List drawn.Point)). 0 ∷ endsFrom 0 ls) i) (omega arith)
+starts-as : (ls ms : List (List drawn.Point)) (a : List ℕ) → a ≡ sets (replicate (mostLines + 1) 0) 1 (endsFrom 0 ls) → ls ≡ ms → length ms ≤ mostLines → a ≡ padded (mostLines + 1) 0 (0 ∷ endsFrom 0 ms)
+starts-as ls ms a e i h = let m = length-ends 0 ms in filled-as (mostLines + 1) 0 a (0 ∷ endsFrom 0 ls) (0 ∷ endsFrom 0 ms) e (ap (λ (ls : List (List drawn.Point)). 0 ∷ endsFrom 0 ls) i) (omega arith)
 
 module _ (file : List ℕ) (p : Passed file) (t : Tally) (e : t ≡ tallied (recordsOf file) noTally) where
   pub lines-ready : AtLines file 16 (t .lines)
@@ -98,7 +98,7 @@ module _ (file : List ℕ) (p : Passed file) (t : Tally) (e : t ≡ tallied (rec
         few-links = rw n (f .2);
       }
 
-  pub drawing-made : (s : Settings) (r : Lines) (edges : List MstEdge) → s ≡ settingsIn (recordRead file 0 .body) → LinesRead file 16 r → edges ≡ sets (replicate 255 noEdge) 0 (edgesFrom file (r .end))
+  pub drawing-made : (s : Settings) (r : Lines) (edges : List MstEdge) → s ≡ settingsIn (recordRead file 0 .body) → LinesRead file 16 r → edges ≡ sets (replicate mostLinks noEdge) 0 (edgesFrom file (r .end))
       → _≡_ {A = Drawing} (record { settings = s; lines = t .lines; starts = r .starts; points = t .points; xs = r .xs; ys = r .ys; «link_count» = t .links; links = edges }) (drawingHeld (drawingOf (recordsOf file)))
   unfolding drawingHeld drawingOf
   drawing-made s r edges i l k =
@@ -108,13 +108,13 @@ module _ (file : List ℕ) (p : Passed file) (t : Tally) (e : t ≡ tallied (rec
       let w = p .is-whole in
       let lines-are : linesFrom file 16 ≡ map lineOf (bodies 2 rs) = ap (map lineOf) (sym (bodies-behind file w (p .in-order) (p .long) 2 (λ q. omega arith))) in
       let links-are : edgesFrom file (r .end) ≡ map edgeFrom (map linkOf (bodies 3 rs)) = ap (λ (bs : List (List ℕ)). map edgeFrom (map linkOf bs)) (l .same-links ∙ sym (bodies-behind file w (p .in-order) (p .long) 3 (λ q. omega arith))) in
-      let few-e : length (map edgeFrom (map linkOf (bodies 3 rs))) ≤ 255 = rw (length-map edgeFrom (map linkOf (bodies 3 rs))) (f .2) in
-      same-drawing s (settingsFrom (d .settings)) (t .lines) (length (d .lines)) (t .points) (length (flat (d .lines))) (t .links) (length (d .links)) (r .starts) (padded 257 0 (0 ∷ endsFrom 0 (d .lines))) (r .xs) (padded 1024 0 (xsOf (flat (d .lines)))) (r .ys) (padded 1024 0 (ysOf (flat (d .lines)))) edges (padded 255 noEdge (map edgeFrom (d .links)))
+      let few-e : length (map edgeFrom (map linkOf (bodies 3 rs))) ≤ mostLinks = rw (length-map edgeFrom (map linkOf (bodies 3 rs))) (f .2) in
+      same-drawing s (settingsFrom (d .settings)) (t .lines) (length (d .lines)) (t .points) (length (flat (d .lines))) (t .links) (length (d .links)) (r .starts) (padded (mostLines + 1) 0 (0 ∷ endsFrom 0 (d .lines))) (r .xs) (padded mostPoints 0 (xsOf (flat (d .lines)))) (r .ys) (padded mostPoints 0 (ysOf (flat (d .lines)))) edges (padded mostLinks noEdge (map edgeFrom (d .links)))
       (i ∙ settings-read file w (p .in-order) (p .long)) (lines-tally rs t e) (points-tally rs t e ∙ sym (length-flat (d .lines))) (links-tally rs t e)
       (starts-as (linesFrom file 16) (d .lines) (r .starts) (l .starts-are) lines-are (f .0))
       (places-as (λ (p : drawn.Point). p .x) (linesFrom file 16) (d .lines) (r .xs) (l .xs-are) lines-are (f .1))
       (places-as (λ (p : drawn.Point). p .y) (linesFrom file 16) (d .lines) (r .ys) (l .ys-are) lines-are (f .1))
-      (filled-as 255 noEdge edges (edgesFrom file (r .end)) (map edgeFrom (d .links)) k links-are few-e)
+      (filled-as mostLinks noEdge edges (edgesFrom file (r .end)) (map edgeFrom (d .links)) k links-are few-e)
 
 -- ---- check 8 on it
 
@@ -132,19 +132,19 @@ module _ (file : List ℕ) (p : Passed file) (d : Drawing) (e : d ≡ drawingHel
       let f = few-of a (p .few) in
       let m = length-ends 0 (a .lines) in
       let f0 = f .0 in
-      let few-e : length (map edgeFrom (a .links)) ≤ 255 = rw (length-map edgeFrom (a .links)) (f .2) in
+      let few-e : length (map edgeFrom (a .links)) ≤ mostLinks = rw (length-map edgeFrom (a .links)) (f .2) in
       sym
       (h
       ∙ ap (λ (d : Drawing). edgesHeld (d .starts) (d .lines) (d .links) (d .«link_count») 0) e
-      ∙ ap (λ (s : List ℕ). edgesHeld s (length (a .lines)) (padded 255 noEdge (map edgeFrom (a .links))) (length (a .links)) 0) (sym (sets-padded 257 0 (0 ∷ endsFrom 0 (a .lines)) (omega arith)))
-      ∙ ap (λ (l : List MstEdge). edgesHeld (sets (replicate 257 0) 1 (endsFrom 0 (a .lines))) (length (a .lines)) l (length (a .links)) 0) (sym (sets-padded 255 noEdge (map edgeFrom (a .links)) few-e))
+      ∙ ap (λ (s : List ℕ). edgesHeld s (length (a .lines)) (padded mostLinks noEdge (map edgeFrom (a .links))) (length (a .links)) 0) (sym (sets-padded (mostLines + 1) 0 (0 ∷ endsFrom 0 (a .lines)) (omega arith)))
+      ∙ ap (λ (l : List MstEdge). edgesHeld (sets (replicate (mostLines + 1) 0) 1 (endsFrom 0 (a .lines))) (length (a .lines)) l (length (a .links)) 0) (sym (sets-padded mostLinks noEdge (map edgeFrom (a .links)) few-e))
       ∙ links-are a (f .0) (f .2))
       ∙ i
 
 -- ---- the drawing of a refused file
 
 pub empty-made : (s : Settings) (k : MstEdge) → s ≡ noSettings → k ≡ noEdge
-    → _≡_ {A = Drawing} (record { settings = s; lines = 0; starts = replicate 257 0; points = 0; xs = replicate 1024 0; ys = replicate 1024 0; «link_count» = 0; links = replicate 255 k }) (drawingHeld noDrawing)
+    → _≡_ {A = Drawing} (record { settings = s; lines = 0; starts = replicate (mostLines + 1) 0; points = 0; xs = replicate mostPoints 0; ys = replicate mostPoints 0; «link_count» = 0; links = replicate mostLinks k }) (drawingHeld noDrawing)
 unfolding drawingHeld flat endsFrom
-empty-made s k es ek = ap (λ (s : Settings). record { settings = s; lines = 0; starts = replicate 257 0; points = 0; xs = replicate 1024 0; ys = replicate 1024 0; «link_count» = 0; links = replicate 255 k }) es
-    ∙ ap (λ (k : MstEdge). record { settings = noSettings; lines = 0; starts = replicate 257 0; points = 0; xs = replicate 1024 0; ys = replicate 1024 0; «link_count» = 0; links = replicate 255 k }) ek
+empty-made s k es ek = ap (λ (s : Settings). record { settings = s; lines = 0; starts = replicate (mostLines + 1) 0; points = 0; xs = replicate mostPoints 0; ys = replicate mostPoints 0; «link_count» = 0; links = replicate mostLinks k }) es
+    ∙ ap (λ (k : MstEdge). record { settings = noSettings; lines = 0; starts = replicate (mostLines + 1) 0; points = 0; xs = replicate mostPoints 0; ys = replicate mostPoints 0; «link_count» = 0; links = replicate mostLinks k }) ek

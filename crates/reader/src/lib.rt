@@ -24,6 +24,14 @@ use limits::MOST_LINKS;
 use limits::MOST_PAIRING;
 use limits::MOST_POINTS;
 use limits::MOST_SIDE;
+use limits::REFUSED_BYTES;
+use limits::REFUSED_COORDINATES;
+use limits::REFUSED_COUNTS;
+use limits::REFUSED_CUT;
+use limits::REFUSED_KINDS;
+use limits::REFUSED_LENGTHS;
+use limits::REFUSED_LINKS;
+use limits::REFUSED_SETTINGS;
 use records::Body;
 use records::MstEdge;
 use records::Point;
@@ -337,9 +345,9 @@ fn coordinates_fit(file: &[u8]) -> bool
 
 // The lines of a drawing, in flat arrays: line i's points are those from starts[i] to starts[i + 1].
 pub struct Lines {
-    pub starts: [u16; 257],
-    pub xs: [u32; 1024],
-    pub ys: [u32; 1024],
+    pub starts: [u16; MOST_LINES + 1],
+    pub xs: [u32; MOST_POINTS],
+    pub ys: [u32; MOST_POINTS],
     pub end: usize,
 }
 
@@ -349,8 +357,8 @@ fn fill_points(
     at: usize,
     count: usize,
     first: usize,
-    xs: &mut [u32; 1024],
-    ys: &mut [u32; 1024],
+    xs: &mut [u32; MOST_POINTS],
+    ys: &mut [u32; MOST_POINTS],
 )
     requires { ⌜ (at + 16 * count ≤ length (now file)) × (first + count ≤ mostPoints) ⌝ }
     ensures xs_filled { λ _. ⌜ now (xs .exit) ≡ sets (now (xs .entry)) first (xsOf (points count (drop at (now (file .entry))))) ⌝ }
@@ -373,9 +381,9 @@ fn read_lines(file: &[u8], start: usize, count: usize) -> Lines
     requires { ⌜ AtLines (now file) start count ⌝ }
     ensures { λ r. ⌜ LinesRead (now (file .entry)) start r ⌝ }
 {
-    let mut starts = [0u16; 257];
-    let mut xs = [0u32; 1024];
-    let mut ys = [0u32; 1024];
+    let mut starts = [0u16; MOST_LINES + 1];
+    let mut xs = [0u32; MOST_POINTS];
+    let mut ys = [0u32; MOST_POINTS];
     let mut at = start;
     let mut line = 0;
     let mut filled = 0;
@@ -398,11 +406,11 @@ fn read_lines(file: &[u8], start: usize, count: usize) -> Lines
 }
 
 // The links of a file, of which there are `count`, from the place of the first on.
-fn read_links(file: &[u8], start: usize, count: usize) -> [MstEdge; 255]
+fn read_links(file: &[u8], start: usize, count: usize) -> [MstEdge; MOST_LINKS]
     requires { ⌜ AtLinks (now file) start count ⌝ }
-    ensures { λ r. ⌜ r ≡ sets (replicate 255 noEdge) 0 (edgesFrom (now (file .entry)) start) ⌝ }
+    ensures { λ r. ⌜ r ≡ sets (replicate mostLinks noEdge) 0 (edgesFrom (now (file .entry)) start) ⌝ }
 {
-    let mut edges = [no_edge(); 255];
+    let mut edges = [no_edge(); MOST_LINKS];
     let mut at = start;
     let mut link = 0;
     while link < count {
@@ -424,7 +432,7 @@ fn most_segment(points: u16) -> u16
 }
 
 // Check 8, of one end of a link: its line is there and has points, and its segment is one of them.
-fn end_fits(starts: &[u16; 257], lines: usize, line: u16, segment: u16) -> bool
+fn end_fits(starts: &[u16; MOST_LINES + 1], lines: usize, line: u16, segment: u16) -> bool
     requires { ⌜ lines ≤ mostLines ⌝ }
     ensures { λ r. ⌜ r ≡ endHeld (now (starts .entry)) lines line segment ⌝ }
 {
@@ -442,7 +450,7 @@ fn end_fits(starts: &[u16; 257], lines: usize, line: u16, segment: u16) -> bool
 }
 
 // Check 8, of a link.
-fn edge_fits(starts: &[u16; 257], lines: usize, e: MstEdge) -> bool
+fn edge_fits(starts: &[u16; MOST_LINES + 1], lines: usize, e: MstEdge) -> bool
     requires { ⌜ lines ≤ mostLines ⌝ }
     ensures { λ r. ⌜ r ≡ edgeHeld (now (starts .entry)) lines e ⌝ }
 {
@@ -452,7 +460,12 @@ fn edge_fits(starts: &[u16; 257], lines: usize, e: MstEdge) -> bool
 }
 
 // Check 8.
-fn edges_fit(starts: &[u16; 257], lines: usize, edges: [MstEdge; 255], count: usize) -> bool
+fn edges_fit(
+    starts: &[u16; MOST_LINES + 1],
+    lines: usize,
+    edges: [MstEdge; MOST_LINKS],
+    count: usize,
+) -> bool
     requires { ⌜ (lines ≤ mostLines) × (count ≤ mostLinks) ⌝ }
     ensures { λ r. ⌜ r ≡ edgesHeld (now (starts .entry)) lines edges count 0 ⌝ }
 {
@@ -479,12 +492,12 @@ pub enum Verdict {
 pub struct Drawing {
     pub settings: Settings,
     pub lines: usize,
-    pub starts: [u16; 257],
+    pub starts: [u16; MOST_LINES + 1],
     pub points: usize,
-    pub xs: [u32; 1024],
-    pub ys: [u32; 1024],
+    pub xs: [u32; MOST_POINTS],
+    pub ys: [u32; MOST_POINTS],
     pub link_count: usize,
-    pub links: [MstEdge; 255],
+    pub links: [MstEdge; MOST_LINKS],
 }
 
 // The verdict, and the drawing of an accepted file; of a refused one, a drawing with nothing in it.
@@ -498,33 +511,33 @@ fn first_refusal(file: &[u8]) -> u8
     ensures { λ r. ⌜ r ≡ firstSeven (now (file .entry)) ⌝ }
 {
     if MOST_BYTES < file.len() {
-        return 1;
+        return REFUSED_BYTES;
     }
     let cut = records::is_cut(file);
     if cut {
-        return 2;
+        return REFUSED_CUT;
     }
     let t = tally_of(file);
     let order = t.order;
     let in_order = order_fits(order);
     if !in_order {
-        return 3;
+        return REFUSED_KINDS;
     }
     let long = t.lengths;
     if !long {
-        return 4;
+        return REFUSED_LENGTHS;
     }
     let settings = settings_fit(settings_of(file, 0));
     if !settings {
-        return 5;
+        return REFUSED_SETTINGS;
     }
     let few = counts_fit(t.lines, t.points, t.links);
     if !few {
-        return 6;
+        return REFUSED_COUNTS;
     }
     let on = coordinates_fit(file);
     if !on {
-        return 7;
+        return REFUSED_COORDINATES;
     }
     0
 }
@@ -533,14 +546,14 @@ fn no_drawing() -> Drawing
     ensures { λ r. ⌜ r ≡ drawingHeld noDrawing ⌝ }
 {
     let settings = no_settings();
-    let links = [no_edge(); 255];
+    let links = [no_edge(); MOST_LINKS];
     Drawing {
         settings,
         lines: 0,
-        starts: [0u16; 257],
+        starts: [0u16; MOST_LINES + 1],
         points: 0,
-        xs: [0u32; 1024],
-        ys: [0u32; 1024],
+        xs: [0u32; MOST_POINTS],
+        ys: [0u32; MOST_POINTS],
         link_count: 0,
         links,
     }
@@ -594,7 +607,7 @@ pub fn read(file: &[u8]) -> Reading
     let links = drawing.links;
     let fit = edges_fit(&starts, drawing.lines, links, drawing.link_count);
     if !fit {
-        return refused(8);
+        return refused(REFUSED_LINKS);
     }
     Reading {
         verdict: Verdict::Accepted,

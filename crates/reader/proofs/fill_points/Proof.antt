@@ -3,6 +3,7 @@ use mathlib.Core.Path.{refl}
 use Prim.Native.Nat.{_≤_, _+_, _*_}
 use native.Mathlib.Omega.{arith}
 use lib.ListN.{length}
+use Rattle.limits.specs.Limits.{mostPoints}
 use Rattle.drawing.specs.Drawing.{Point}
 use Rattle.reader.specs.Lines.{Placing, placing, placed}
 use Rattle.reader.proofs.fill_points.Statement.{statement}
@@ -10,7 +11,7 @@ use Rattle.reader.proofs.fill_points.Tie as tie
 
 abbrev Inv-loop : tie.InvT-loop
 Inv-loop file at count first xs₀ ys₀ place₀ left₀ i₀ xs ys place left i =
-    (place + 16 * left ≤ length file) × (i + left ≤ 1024) × Placing (λ (p : Point). p .x) file at count first xs₀ place left i xs × Placing (λ (p : Point). p .y) file at count first ys₀ place left i ys
+    (place + 16 * left ≤ length file) × (i + left ≤ mostPoints) × Placing (λ (p : Point). p .x) file at count first xs₀ place left i xs × Placing (λ (p : Point). p .y) file at count first ys₀ place left i ys
 
 abbrev μ-loop : tie.MeasureT-loop
 μ-loop file at count first xs₀ ys₀ place₀ left₀ i₀ xs ys place left i = left
