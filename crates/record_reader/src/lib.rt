@@ -57,3 +57,11 @@ pub fn behind<'a>(r: RecordReader<'a>) -> RecordReader<'a>
         at: next,
     }
 }
+
+// The body of the record at a place of a file. Its parameters are a plain slice and a number, so whoever calls it needs no
+// proof by hand.
+pub fn body_of(file: &[u8], at: usize) -> &[u8]
+    ensures { λ s. ⌜ now s ≡ bodyPart (now (file .entry)) at ⌝ }
+{
+    body(RecordReader { file, at })
+}
