@@ -1,10 +1,10 @@
 -- Check 7, record by record. Assumes nothing.
-use Prim.Native.Nat.{ℕ, zero, suc, _+_, _-_, _*_, _/_, _%_, _≤_, _<_}
+use Prim.Native.Nat.{ℕ, suc, _+_, _-_, _*_, _/_, _%_, _≤_, _<_}
 use native.Mathlib.Omega.{arith}
 use mathlib.Core.Path.{_≡_, refl, sym, ap, _∙_}
 use mathlib.Core.List.{List, [], _∷_}
 use mathlib.Core.Bool.{Bool, true, false, _&&_, cond}
-use lib.ListN.{length, take, drop}
+use lib.ListN.{length, drop}
 use lib.Seq.{drop-drop}
 use lib.Dec.{eqb}
 use borrow.Author.Tests.{ne-eqb}
@@ -12,8 +12,8 @@ use Rattle.grid.specs.Grid.{readPlace}
 use Rattle.drawing.specs.Bytes.{number}
 use Rattle.drawing.specs.Read.{Record, onGrid, words, bodies, every, lengthsFit, coordinatesFit, recordsOf, isCut}
 use Rattle.records.specs.Walk.{sizeAt, kindAt, bodyAt, recordAt, nextAt, recordsFrom, cutFrom, none-left, room, still-whole, record-here, body-long}
-use Rattle.records.specs.Numbers.{drop-take, number-front}
-use Rattle.reader.specs.Tally.{lengthFits, link-size, Kind, first, second, third, none, kind-of, bodies-here, bodies-other, lengths-cons}
+use Rattle.record_reader.specs.Part.{bodyPart, part-is}
+use Rattle.reader.specs.Tally.{lengthFits, Kind, first, second, third, none, kind-of, bodies-here, bodies-other, lengths-cons}
 
 -- ---- what the code computes
 
@@ -24,8 +24,9 @@ on w = onGrid (readPlace w)
 unfoldable pub wordsOn : List ℕ → ℕ → ℕ → Bool
 wordsOn file at n = every (λ (w : ℕ). onGrid (readPlace w)) (words n (drop at file))
 
-abbrev pub recordOn : List ℕ → ℕ → ℕ → ℕ → Bool
-recordOn file at k n = cond (eqb k 2) (wordsOn file (at + 6) (n / 8)) (cond (eqb k 3) (wordsOn file (at + 14) 4) true)
+-- a line's body is coordinates, and so is a link's from its ninth byte on
+abbrev pub bodyOn : ℕ → List ℕ → Bool
+bodyOn k b = cond (eqb k 2) (wordsOn b 0 (length b / 8)) (cond (eqb k 3) (wordsOn b 8 4) true)
 
 -- ---- a row of coordinates, one at a time
 
@@ -41,23 +42,6 @@ row-step file at n h =
 
 -- ---- a record
 
-words-front : (n m : ℕ) (bs : List ℕ) → 8 * n ≤ m → words n (take m bs) ≡ words n bs
-unfolding words
-words-front zero m bs h = refl
-words-front (suc n) m bs h =
-    let a = number-front 8 m bs (omega arith) in
-    let b = ap (words n) (drop-take 8 m bs) ∙ words-front n (m - 8) (drop 8 bs) (omega arith) in
-    rw (a, b)
-
-abbrev lineOn : List ℕ → Bool
-lineOn b = every (λ (w : ℕ). onGrid (readPlace w)) (words (length b / 8) b)
-
-abbrev linkOn : List ℕ → Bool
-linkOn b = every (λ (w : ℕ). onGrid (readPlace w)) (words 4 (drop 8 b))
-
-recordFits : Record → Bool
-recordFits r = cond (eqb (r .kind) 2) (lineOn (r .body)) (cond (eqb (r .kind) 3) (linkOn (r .body)) true)
-
 shift2 : (x a b : Bool) → (x && a) && b ≡ x && (a && b)
 shift2 true a b = refl
 shift2 false a b = refl
@@ -67,8 +51,8 @@ shift3 true a b = refl
 shift3 false true b = refl
 shift3 false false b = refl
 
-coordinates-cons : (r : Record) (rs : List Record) → coordinatesFit (r ∷ rs) ≡ recordFits r && coordinatesFit rs
-unfolding coordinatesFit every recordFits
+coordinates-cons : (r : Record) (rs : List Record) → coordinatesFit (r ∷ rs) ≡ bodyOn (r .kind) (r .body) && coordinatesFit rs
+unfolding coordinatesFit every wordsOn
 coordinates-cons r rs = go (kind-of (r .kind))
   where
     two : List Record → Bool
@@ -77,10 +61,10 @@ coordinates-cons r rs = go (kind-of (r .kind))
     three : List Record → Bool
     three rs = every (λ (b : List ℕ). every (λ (w : ℕ). onGrid (readPlace w)) (words 4 (drop 8 b))) (bodies 3 rs)
 
-    go : Kind (r .kind) → coordinatesFit (r ∷ rs) ≡ recordFits r && coordinatesFit rs
+    go : Kind (r .kind) → coordinatesFit (r ∷ rs) ≡ bodyOn (r .kind) (r .body) && coordinatesFit rs
     go (first e) = rw (bodies-other 2 r rs (λ q. omega arith), bodies-other 3 r rs (λ q. omega arith), e)
-    go (second e) = rw (bodies-here 2 r rs e, bodies-other 3 r rs (λ q. omega arith), e) (shift2 (lineOn (r .body)) (two rs) (three rs))
-    go (third e) = rw (bodies-other 2 r rs (λ q. omega arith), bodies-here 3 r rs e, e) (shift3 (linkOn (r .body)) (two rs) (three rs))
+    go (second e) = rw (bodies-here 2 r rs e, bodies-other 3 r rs (λ q. omega arith), e) (shift2 (wordsOn (r .body) 0 (length (r .body) / 8)) (two rs) (three rs))
+    go (third e) = rw (bodies-other 2 r rs (λ q. omega arith), bodies-here 3 r rs e, e) (shift3 (wordsOn (r .body) 8 4) (two rs) (three rs))
     go (none p q s) = rw (bodies-other 2 r rs q, bodies-other 3 r rs s, ne-eqb (r .kind) 2 q, ne-eqb (r .kind) 3 s)
 
 and-first : (a b : Bool) → a && b ≡ true → a ≡ true
@@ -104,33 +88,8 @@ module _ (file : List ℕ) (at : ℕ) (h : at < length file) (w : cutFrom file a
   pub lengths-after : lengthsFit (recordsFrom file (nextAt file at)) ≡ true
   lengths-after = and-second (lengthFits (kindAt file at) (length (bodyAt file at))) (lengthsFit (recordsFrom file (nextAt file at))) both
 
-  record-on : recordFits (recordAt file at) ≡ recordOn file at (kindAt file at) (sizeAt file at)
-  unfolding recordFits wordsOn
-  record-on = go (kind-of (kindAt file at))
-    where
-      n : ℕ
-      n = sizeAt file at
-
-      line : lineOn (bodyAt file at) ≡ wordsOn file (at + 6) (n / 8)
-      line = ap (λ (m : ℕ). every (λ (w : ℕ). onGrid (readPlace w)) (words (m / 8) (bodyAt file at))) (body-long file at h w) ∙ ap (every (λ (w : ℕ). onGrid (readPlace w))) (words-front (n / 8) n (drop (at + 6) file) (omega arith))
-
-      link : n ≡ 40 → linkOn (bodyAt file at) ≡ wordsOn file (at + 14) 4
-      link e =
-          ap (λ (b : List ℕ). every (λ (w : ℕ). onGrid (readPlace w)) (words 4 b)) (drop-take 8 n (drop (at + 6) file) ∙ ap (take (n - 8)) (drop-drop 8 (at + 6) file))
-          ∙ ap (every (λ (w : ℕ). onGrid (readPlace w))) (words-front 4 (n - 8) (drop (at + 6 + 8) file) (omega arith))
-          ∙ (let s : at + 6 + 8 ≡ at + 14 = omega arith in ap (λ (p : ℕ). wordsOn file p 4) s)
-
-      go : Kind (kindAt file at) → recordFits (recordAt file at) ≡ recordOn file at (kindAt file at) n
-      go (first e) = rw e
-      go (second e) = rw e line
-      go (third e) = rw e (link (link-size (kindAt file at) n length-here e))
-      go (none p q s) = rw (ne-eqb (kindAt file at) 2 q, ne-eqb (kindAt file at) 3 s)
-
-  on-step : coordinatesFit (recordsFrom file at) ≡ recordOn file at (kindAt file at) (sizeAt file at) && coordinatesFit (recordsFrom file (nextAt file at))
-  on-step =
-      ap coordinatesFit (record-here file at h w)
-      ∙ coordinates-cons (recordAt file at) (recordsFrom file (nextAt file at))
-      ∙ ap (λ (b : Bool). b && coordinatesFit (recordsFrom file (nextAt file at))) record-on
+  on-step : coordinatesFit (recordsFrom file at) ≡ bodyOn (kindAt file at) (bodyAt file at) && coordinatesFit (recordsFrom file (nextAt file at))
+  on-step = ap coordinatesFit (record-here file at h w) ∙ coordinates-cons (recordAt file at) (recordsFrom file (nextAt file at))
 
 -- ---- the loop over the records
 
@@ -147,17 +106,26 @@ pub check-end : (file : List ℕ) (at : ℕ) → Checking file at → length fil
 unfolding coordinatesFit bodies every
 check-end file at c h = sym (ap coordinatesFit (none-left file at h)) ∙ c .same
 
-module _ (file : List ℕ) (at k n : ℕ) (c : Checking file at) (h : at < length file) (K : k ≡ kindAt file at) (N : n ≡ sizeAt file at) where
-  here : (b : Bool) → recordOn file at k n ≡ b → recordOn file at (kindAt file at) (sizeAt file at) ≡ b
-  here b e = sym (ap (λ (k : ℕ). recordOn file at k n) K ∙ ap (recordOn file at (kindAt file at)) N) ∙ e
+module _ (file : List ℕ) (at k n : ℕ) (b : List ℕ) (c : Checking file at) (h : at < length file) (K : k ≡ kindAt file at) (N : n ≡ sizeAt file at) (E : b ≡ bodyPart file at) where
+  body-is : b ≡ bodyAt file at
+  body-is = E ∙ part-is file at (room file at h (c .is-whole))
+
+  pub body-fits : lengthFits k (length b) ≡ true
+  body-fits =
+      ap (λ (k : ℕ). lengthFits k (length b)) K
+      ∙ ap (lengthFits (kindAt file at)) (ap length body-is ∙ body-long file at h (c .is-whole))
+      ∙ length-here file at h (c .is-whole) (c .lengths-fit)
+
+  here : (v : Bool) → bodyOn k b ≡ v → bodyOn (kindAt file at) (bodyAt file at) ≡ v
+  here v e = sym (ap (λ (k : ℕ). bodyOn k b) K ∙ ap (bodyOn (kindAt file at)) body-is) ∙ e
 
   step : at + (6 + n) ≡ nextAt file at
   step = ap (λ (m : ℕ). at + (6 + m)) N
 
-  pub check-off : recordOn file at k n ≡ false → false ≡ coordinatesFit (recordsOf file)
-  check-off e = ap (λ (b : Bool). b && coordinatesFit (recordsFrom file (nextAt file at))) (sym (here false e)) ∙ sym (on-step file at h (c .is-whole) (c .lengths-fit)) ∙ c .same
+  pub check-off : bodyOn k b ≡ false → false ≡ coordinatesFit (recordsOf file)
+  check-off e = ap (λ (t : Bool). t && coordinatesFit (recordsFrom file (nextAt file at))) (sym (here false e)) ∙ sym (on-step file at h (c .is-whole) (c .lengths-fit)) ∙ c .same
 
-  pub check-on : recordOn file at k n ≡ true → Checking file (at + (6 + n))
+  pub check-on : bodyOn k b ≡ true → Checking file (at + (6 + n))
   check-on e =
       let r = room file at h (c .is-whole) in
       record {
@@ -166,7 +134,7 @@ module _ (file : List ℕ) (at k n : ℕ) (c : Checking file at) (h : at < lengt
         lengths-fit = ap (λ (a : ℕ). lengthsFit (recordsFrom file a)) step ∙ lengths-after file at h (c .is-whole) (c .lengths-fit);
         same =
             ap (λ (a : ℕ). coordinatesFit (recordsFrom file a)) step
-            ∙ sym (on-step file at h (c .is-whole) (c .lengths-fit) ∙ ap (λ (b : Bool). b && coordinatesFit (recordsFrom file (nextAt file at))) (here true e))
+            ∙ sym (on-step file at h (c .is-whole) (c .lengths-fit) ∙ ap (λ (t : Bool). t && coordinatesFit (recordsFrom file (nextAt file at))) (here true e))
             ∙ c .same;
       }
 

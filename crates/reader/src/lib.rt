@@ -9,7 +9,7 @@ ghost use Rattle.drawing.specs.Read.{isCut, recordsOf, lengthsFit, settingsFit,
 ghost use Rattle.records.specs.Body.{recordRead};
 ghost use Rattle.reader.specs.Tally.{after, orderFits, lengthFits, oneIf, pointsIf, countedAs, tallied, noTally};
 ghost use Rattle.reader.specs.Held.{settingsIn, spanIn, edgeIn, settingsBack, noSettings, noEdge};
-ghost use Rattle.reader.specs.Coordinates.{wordsOn, recordOn};
+ghost use Rattle.reader.specs.Coordinates.{wordsOn, bodyOn};
 ghost use Rattle.reader.specs.Stores.{xsOf, ysOf};
 ghost use Rattle.reader.specs.Lines.{AtLines, LinesRead};
 ghost use Rattle.reader.specs.Links.{AtLinks, edgesFrom};
@@ -311,16 +311,16 @@ fn words_on_grid(file: &[u8], at: usize, count: usize) -> bool
     true
 }
 
-// Check 7, of one record: a line's body is coordinates, and so is a link's from its ninth byte on.
-fn record_on_grid(file: &[u8], at: usize, kind: u16, size: usize) -> bool
-    requires { ⌜ (at + (6 + size) ≤ length (now file)) × (lengthFits kind size ≡ true) ⌝ }
-    ensures { λ r. ⌜ r ≡ recordOn (now (file .entry)) at kind size ⌝ }
+// Check 7, of one body: a line's is coordinates, and so is a link's from its ninth byte on.
+fn body_on_grid(body: &[u8], kind: u16) -> bool
+    requires { ⌜ lengthFits kind (length (now body)) ≡ true ⌝ }
+    ensures { λ r. ⌜ r ≡ bodyOn kind (now (body .entry)) ⌝ }
 {
     if kind == 2 {
-        return words_on_grid(file, at + 6, size / 8);
+        return words_on_grid(body, 0, body.len() / 8);
     }
     if kind == 3 {
-        return words_on_grid(file, at + 14, 4);
+        return words_on_grid(body, 8, 4);
     }
     true
 }
@@ -334,7 +334,8 @@ fn coordinates_fit(file: &[u8]) -> bool
     while at < file.len() {
         let size = records::size_at(file, at);
         let kind = records::kind_at(file, at);
-        let on = record_on_grid(file, at, kind, size);
+        let body = record_reader::body_of(file, at);
+        let on = body_on_grid(body, kind);
         if !on {
             return false;
         }

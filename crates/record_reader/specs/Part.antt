@@ -5,7 +5,7 @@ use mathlib.Core.Path.{_≡_, sym, _∙_}
 use mathlib.Core.List.{List, []}
 use mathlib.Core.Bool.{Bool, true, false, cond}
 use lib.ListN.{length, take, drop}
-use borrow.Author.Tests.{leb-true}
+use borrow.Author.Tests.{leb-true, le-leb}
 use Rattle.records.specs.Walk.{sizeAt, bodyAt, nextAt}
 use Rattle.records.specs.Body.{wholeAt}
 
@@ -38,3 +38,8 @@ module _ (file : List ℕ) (at : ℕ) (t : Bool) (w : t ≡ wholeAt file at) whe
   pub next-none : t ≡ false → length file ≡ nextPlace file at
   unfolding nextPlace
   next-none e = rw (sym w ∙ e)
+
+-- of a record that stands whole, the part is its body
+pub part-is : (file : List ℕ) (at : ℕ) → nextAt file at ≤ length file → bodyPart file at ≡ bodyAt file at
+unfolding bodyPart
+part-is file at h = rw (le-leb (nextAt file at) (length file) h)

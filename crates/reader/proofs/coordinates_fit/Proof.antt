@@ -1,12 +1,11 @@
 -- `reader::coordinates_fit` meets its contract: its loop keeps `Checking`. Assumes nothing.
-use mathlib.Core.Path.{sym, ap, _∙_}
-use Prim.Native.Nat.{ℕ, _-_}
+use mathlib.Core.Path.{sym, _∙_}
+use Prim.Native.Nat.{_-_}
 use native.Mathlib.Omega.{arith}
 use lib.ListN.{length}
 use borrow.Author.Tests.{not-true, not-false}
-use Rattle.records.specs.Walk.{kindAt, room}
-use Rattle.reader.specs.Tally.{lengthFits}
-use Rattle.reader.specs.Coordinates.{Checking, check-start, check-on, check-off, check-end, length-here}
+use Rattle.records.specs.Walk.{room}
+use Rattle.reader.specs.Coordinates.{Checking, check-start, check-on, check-off, check-end, body-fits}
 use Rattle.reader.proofs.coordinates_fit.Statement.{statement}
 use Rattle.reader.proofs.coordinates_fit.Tie as tie
 
@@ -25,29 +24,26 @@ size-at-requires c κs = omega (arith, room (c .before .before .before .args .fi
 kind-at-requires : tie.Need-kind-at-requires Inv-loop μ-loop
 kind-at-requires c κs = omega (arith, room (c .before .before .before .before .args .file .now) (c .before .before .loop .at) (c .before .loop-test .taken) (c .before .before .loop .inv .is-whole))
 
-record-on-grid-requires : tie.Need-record-on-grid-requires Inv-loop μ-loop
-record-on-grid-requires c κs =
-    let file = c .before .before .before .before .before .args .file .now in
-    let at = c .before .before .before .loop .at in
-    let inv = c .before .before .before .loop .inv in
-    let n = c .before .size-at .ensures in
-    let r = room (c .before .before .before .before .before .args .file .now) (c .before .before .before .loop .at) (c .before .before .loop-test .taken) (c .before .before .before .loop .inv .is-whole) in
-    (omega arith, ap (λ (k : ℕ). lengthFits k (c .before .size-at .result)) (c .kind-at .ensures) ∙ ap (lengthFits (kindAt file at)) n ∙ length-here file at (c .before .before .loop-test .taken) (inv .is-whole) (inv .lengths-fit))
+body-of-requires : tie.Need-body-of-requires Inv-loop μ-loop
+body-of-requires c κs = tt
+
+body-on-grid-requires : tie.Need-body-on-grid-requires Inv-loop μ-loop
+body-on-grid-requires c κs = body-fits (c .before .before .before .before .before .before .args .file .now) (c .before .before .before .before .loop .at) _ _ _ (c .before .before .before .before .loop .inv) (c .before .before .before .loop-test .taken) (c .before .kind-at .ensures) (c .before .before .size-at .ensures) (c .body-of .ensures)
 
 returns : tie.Need-returns Inv-loop μ-loop
-returns c = check-off (c .before .before .before .before .before .before .before .args .file .now) (c .before .before .before .before .before .loop .at) _ _ (c .before .before .before .before .before .loop .inv) (c .before .before .before .before .loop-test .taken) (c .before .before .kind-at .ensures) (c .before .before .before .size-at .ensures) (sym (c .before .record-on-grid .ensures) ∙ not-true _ (c .if1 .taken))
+returns c = check-off (c .before .before .before .before .before .before .before .before .args .file .now) (c .before .before .before .before .before .before .loop .at) _ _ _ (c .before .before .before .before .before .before .loop .inv) (c .before .before .before .before .before .loop-test .taken) (c .before .before .before .kind-at .ensures) (c .before .before .before .before .size-at .ensures) (c .before .before .body-of .ensures) (sym (c .before .body-on-grid .ensures) ∙ not-true _ (c .if1 .taken))
 
 add-at : tie.Need-add-at Inv-loop μ-loop
-add-at c = omega (arith, room (c .before .before .before .before .before .before .before .args .file .now) (c .before .before .before .before .before .loop .at) (c .before .before .before .before .loop-test .taken) (c .before .before .before .before .before .loop .inv .is-whole))
+add-at c = omega (arith, room (c .before .before .before .before .before .before .before .before .args .file .now) (c .before .before .before .before .before .before .loop .at) (c .before .before .before .before .before .loop-test .taken) (c .before .before .before .before .before .before .loop .inv .is-whole))
 
 add-at-2 : tie.Need-add-at-2 Inv-loop μ-loop
-add-at-2 c = omega (arith, room (c .before .before .before .before .before .before .before .args .file .now) (c .before .before .before .before .before .loop .at) (c .before .before .before .before .loop-test .taken) (c .before .before .before .before .before .loop .inv .is-whole))
+add-at-2 c = omega (arith, room (c .before .before .before .before .before .before .before .before .args .file .now) (c .before .before .before .before .before .before .loop .at) (c .before .before .before .before .before .loop-test .taken) (c .before .before .before .before .before .before .loop .inv .is-whole))
 
 loop-less : tie.Need-loop-less Inv-loop μ-loop
 loop-less c = omega arith
 
 loop-again : tie.Need-loop-again Inv-loop μ-loop
-loop-again c = check-on (c .before .before .before .before .before .before .before .args .file .now) (c .before .before .before .before .before .loop .at) _ _ (c .before .before .before .before .before .loop .inv) (c .before .before .before .before .loop-test .taken) (c .before .before .kind-at .ensures) (c .before .before .before .size-at .ensures) (sym (c .before .record-on-grid .ensures) ∙ not-false _ (c .if1 .left))
+loop-again c = check-on (c .before .before .before .before .before .before .before .before .args .file .now) (c .before .before .before .before .before .before .loop .at) _ _ _ (c .before .before .before .before .before .before .loop .inv) (c .before .before .before .before .before .loop-test .taken) (c .before .before .before .kind-at .ensures) (c .before .before .before .before .size-at .ensures) (c .before .before .body-of .ensures) (sym (c .before .body-on-grid .ensures) ∙ not-false _ (c .if1 .left))
 
 returns-2 : tie.Need-returns-2 Inv-loop μ-loop
 returns-2 c = check-end (c .before .before .before .args .file .now) (c .before .loop .at) (c .before .loop .inv) (c .loop-test .left)
@@ -61,7 +57,8 @@ coordinates-fit-spec =
     loop-holds
     size-at-requires
     kind-at-requires
-    record-on-grid-requires
+    body-of-requires
+    body-on-grid-requires
     returns
     add-at
     add-at-2
