@@ -4,9 +4,9 @@ use native.Mathlib.Nat.{add-zero}
 use native.Mathlib.Numerals.{add-one}
 use native.Mathlib.Omega.{arith}
 use mathlib.Core.Path.{_≡_, refl, sym, ap, _∙_, subst}
-use mathlib.Core.List.{List, [], _∷_, _++_, map, append-assoc}
+use mathlib.Core.List.{List, [], _∷_, _++_, map, map-append, append-assoc}
 use mathlib.Core.Bool.{Bool, true, false, not, cond}
-use lib.ListN.{length, getD, drop, replicate}
+use lib.ListN.{length, getD, drop, replicate, length-map}
 use lib.Seq.{getD-drop, drop-drop, drop-at}
 use lib.Dec.{T}
 use lib.Ieee.{Float, nan, inf, fin, up, down, binary64, round, fits, ofBits, toBits}
@@ -28,8 +28,7 @@ use Rattle.records.specs.declared.MstEdge.{MstEdge}
 use Rattle.reader.specs.declared.Verdict.the-variants.{Accepted}
 use Rattle.reader.specs.declared.Drawing.{Drawing}
 use Rattle.reader.specs.Held.{settingsBack, noEdge, pastEnd}
-use Rattle.reader.specs.Stores.{padded, flat, xsOf, ysOf, endsFrom, map-append}
-use Rattle.reader.specs.First.{length-map}
+use Rattle.reader.specs.Stores.{padded, flat, xsOf, ysOf, endsFrom}
 use Rattle.reader.specs.Reading.{verdictFrom, drawingHeld, drawingIf, readingOf}
 
 -- ---- the way back
@@ -89,7 +88,7 @@ module _ (g : drawn.Point → ℕ) (l : List drawn.Point) (ls : List (List drawn
   this-line = e ∙ ap (λ (m : List ℕ). m ++ r) (map-append g l (flat ls)) ∙ append-assoc (map g l) (map g (flat ls)) r
 
   other-lines : drop (k + length l) vs ≡ map g (flat ls) ++ r
-  other-lines = sym (drop-drop (length l) k vs) ∙ ap (drop (length l)) this-line ∙ drop-at (map g l) (map g (flat ls) ++ r) (length l) (length-map g l)
+  other-lines = sym (drop-drop (length l) k vs) ∙ ap (drop (length l)) this-line ∙ drop-at (map g l) (map g (flat ls) ++ r) (length l) (length-map l g)
 
 lines-back : (ls : List (List drawn.Point)) (i k : ℕ) (starts xs ys q r s : List ℕ) → drop i starts ≡ k ∷ (endsFrom k ls ++ q) → drop k xs ≡ xsOf (flat ls) ++ r → drop k ys ≡ ysOf (flat ls) ++ s → linesBack (length ls) i starts xs ys ≡ ls
 unfolding linesBack endsFrom
@@ -162,7 +161,7 @@ drawing-back rs =
     let lines-are : linesBack (length ls) 0 (padded (mostLines + 1) 0 (0 ∷ endsFrom 0 ls)) (padded mostPoints 0 (xsOf (flat ls))) (padded mostPoints 0 (ysOf (flat ls))) ≡ ls =
     lines-back ls 0 0 (padded (mostLines + 1) 0 (0 ∷ endsFrom 0 ls)) (padded mostPoints 0 (xsOf (flat ls))) (padded mostPoints 0 (ysOf (flat ls))) (replicate ((mostLines + 1) - length (0 ∷ endsFrom 0 ls)) 0) (replicate (mostPoints - length (xsOf (flat ls))) 0) (replicate (mostPoints - length (ysOf (flat ls))) 0) refl refl refl in
     let links-are : linksBack (length (map linkOf bs)) 0 (padded mostLinks noEdge (map edgeFrom (map linkOf bs))) ≡ map linkOf bs =
-    ap (λ (n : ℕ). linksBack n 0 (padded mostLinks noEdge (map edgeFrom (map linkOf bs)))) (length-map linkOf bs)
+    ap (λ (n : ℕ). linksBack n 0 (padded mostLinks noEdge (map edgeFrom (map linkOf bs)))) (length-map bs linkOf)
     ∙ links-back bs 0 (padded mostLinks noEdge (map edgeFrom (map linkOf bs))) (replicate (mostLinks - length (map edgeFrom (map linkOf bs))) noEdge) refl in
     ap (λ (ms : List (List drawn.Point)). record { settings = settingsOf (getD (bodies 1 rs) 0 []); lines = ms; links = linksBack (length (map linkOf bs)) 0 (padded mostLinks noEdge (map edgeFrom (map linkOf bs))) }) lines-are
     ∙ ap (λ (ks : List drawn.Link). record { settings = settingsOf (getD (bodies 1 rs) 0 []); lines = ls; links = ks }) links-are

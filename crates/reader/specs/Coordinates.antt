@@ -13,7 +13,7 @@ use Rattle.drawing.specs.Bytes.{number}
 use Rattle.drawing.specs.Read.{Record, onGrid, words, bodies, every, lengthsFit, coordinatesFit, recordsOf, isCut}
 use Rattle.records.specs.Walk.{sizeAt, kindAt, bodyAt, recordAt, nextAt, recordsFrom, cutFrom, none-left, room, still-whole, record-here, body-long}
 use Rattle.record_reader.specs.Part.{bodyPart, part-is}
-use Rattle.reader.specs.Tally.{lengthFits, Kind, first, second, third, none, kind-of, bodies-here, bodies-other, lengths-cons}
+use Rattle.reader.specs.Tally.{and-assoc, lengthFits, Kind, first, second, third, none, kind-of, bodies-here, bodies-other, lengths-cons}
 
 -- ---- what the code computes
 
@@ -42,14 +42,10 @@ row-step file at n h =
 
 -- ---- a record
 
-shift2 : (x a b : Bool) → (x && a) && b ≡ x && (a && b)
-shift2 true a b = refl
-shift2 false a b = refl
-
-shift3 : (x a b : Bool) → a && (x && b) ≡ x && (a && b)
-shift3 true a b = refl
-shift3 false true b = refl
-shift3 false false b = refl
+and-swap : (x a b : Bool) → a && (x && b) ≡ x && (a && b)
+and-swap true a b = refl
+and-swap false true b = refl
+and-swap false false b = refl
 
 coordinates-cons : (r : Record) (rs : List Record) → coordinatesFit (r ∷ rs) ≡ bodyOn (r .kind) (r .body) && coordinatesFit rs
 unfolding coordinatesFit every wordsOn
@@ -63,15 +59,15 @@ coordinates-cons r rs = go (kind-of (r .kind))
 
     go : Kind (r .kind) → coordinatesFit (r ∷ rs) ≡ bodyOn (r .kind) (r .body) && coordinatesFit rs
     go (first e) = rw (bodies-other 2 r rs (λ q. omega arith), bodies-other 3 r rs (λ q. omega arith), e)
-    go (second e) = rw (bodies-here 2 r rs e, bodies-other 3 r rs (λ q. omega arith), e) (shift2 (wordsOn (r .body) 0 (length (r .body) / 8)) (two rs) (three rs))
-    go (third e) = rw (bodies-other 2 r rs (λ q. omega arith), bodies-here 3 r rs e, e) (shift3 (wordsOn (r .body) 8 4) (two rs) (three rs))
+    go (second e) = rw (bodies-here 2 r rs e, bodies-other 3 r rs (λ q. omega arith), e) (and-assoc (wordsOn (r .body) 0 (length (r .body) / 8)) (two rs) (three rs))
+    go (third e) = rw (bodies-other 2 r rs (λ q. omega arith), bodies-here 3 r rs e, e) (and-swap (wordsOn (r .body) 8 4) (two rs) (three rs))
     go (none p q s) = rw (bodies-other 2 r rs q, bodies-other 3 r rs s, ne-eqb (r .kind) 2 q, ne-eqb (r .kind) 3 s)
 
-and-first : (a b : Bool) → a && b ≡ true → a ≡ true
+pub and-first : (a b : Bool) → a && b ≡ true → a ≡ true
 and-first true b h = refl
 and-first false b h = h
 
-and-second : (a b : Bool) → a && b ≡ true → b ≡ true
+pub and-second : (a b : Bool) → a && b ≡ true → b ≡ true
 and-second true b h = h
 and-second false b h = let z : _≡_ {A = ℕ} 0 1 = cc in absurd (omega arith)
 

@@ -5,7 +5,7 @@ use native.Mathlib.Omega.{arith}
 use mathlib.Core.Path.{_≡_, refl, sym, ap, _∙_}
 use mathlib.Core.List.{List, [], _∷_, map}
 use mathlib.Core.Bool.{Bool, true, false, _&&_}
-use lib.ListN.{length, getD, take, drop}
+use lib.ListN.{length, getD, take, drop, length-map}
 use lib.Dec.{leb}
 use borrow.Author.Tests.{le-leb, leb-true, leb-false}
 use Rattle.limits.specs.Limits.{mostLines, mostPoints, mostLinks}
@@ -80,10 +80,6 @@ module _ (file : List ℕ) (w : isCut file ≡ false) (k : kindsFit (recordsOf f
 
 -- ---- the counts of the drawing are those of the tally
 
-pub length-map : {A B : Type 0} (f : A → B) (xs : List A) → length (map f xs) ≡ length xs
-length-map f [] = refl
-length-map f (x ∷ xs) = ap suc (length-map f xs)
-
 -- a line has as many points as its body has room for
 pub points-in : (bs : List (List ℕ)) → total (map (λ (l : List Point). length l) (map lineOf bs)) ≡ pointsIn bs
 unfolding total lineOf
@@ -93,7 +89,7 @@ points-in (b ∷ bs) = rw (points-long (length b / 16) b, points-in bs)
 module _ (rs : List Record) (t : Tally) (e : t ≡ tallied rs noTally) where
   pub lines-tally : t .lines ≡ length (drawingOf rs .lines)
   unfolding drawingOf
-  lines-tally = ap (λ (t : Tally). t .lines) e ∙ lines-counted rs noTally ∙ zero-add (length (bodies 2 rs)) ∙ sym (length-map lineOf (bodies 2 rs))
+  lines-tally = ap (λ (t : Tally). t .lines) e ∙ lines-counted rs noTally ∙ zero-add (length (bodies 2 rs)) ∙ sym (length-map (bodies 2 rs) lineOf)
 
   pub points-tally : t .points ≡ total (map (λ (l : List Point). length l) (drawingOf rs .lines))
   unfolding drawingOf
@@ -101,7 +97,7 @@ module _ (rs : List Record) (t : Tally) (e : t ≡ tallied rs noTally) where
 
   pub links-tally : t .links ≡ length (drawingOf rs .links)
   unfolding drawingOf
-  links-tally = ap (λ (t : Tally). t .links) e ∙ links-counted rs noTally ∙ zero-add (length (bodies 3 rs)) ∙ sym (length-map linkOf (bodies 3 rs))
+  links-tally = ap (λ (t : Tally). t .links) e ∙ links-counted rs noTally ∙ zero-add (length (bodies 3 rs)) ∙ sym (length-map (bodies 3 rs) linkOf)
 
   pub counts-tally : leb (t .lines) mostLines && leb (t .points) mostPoints && leb (t .links) mostLinks ≡ countsFit (drawingOf rs)
   unfolding countsFit

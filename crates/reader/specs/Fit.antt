@@ -6,7 +6,7 @@ use native.Mathlib.Omega.{arith}
 use mathlib.Core.Path.{_≡_, refl, sym, ap, _∙_}
 use mathlib.Core.List.{List, [], _∷_, _++_, map}
 use mathlib.Core.Bool.{Bool, true, false, _&&_}
-use lib.ListN.{length, getD, take, drop, replicate, length-replicate, List·getD-eq-default}
+use lib.ListN.{length, getD, take, drop, replicate, length-replicate, length-map, List·getD-eq-default}
 use lib.Dec.{leb, ltb}
 use lib.Seq.{sets, sets-eq, getD-drop, drop-drop}
 use borrow.Author.Tests.{lt-ltb, le-ltb, ltb-true, ltb-false}
@@ -125,8 +125,4 @@ pub links-are : (d : Drawing) → length (d .lines) ≤ mostLines → length (d 
 unfolding linksFit
 links-are d l k =
     every-edge (d .lines) l (d .links) (sets (replicate mostLinks noEdge) 0 (map edgeFrom (d .links))) (drop (0 + length (map edgeFrom (d .links))) (replicate mostLinks noEdge)) 0
-    (let m = long (d .links) in sets-eq (map edgeFrom (d .links)) (replicate mostLinks noEdge) 0 (rw length-replicate (omega arith)))
-  where
-    long : (ks : List Link) → length (map edgeFrom ks) ≡ length ks
-    long [] = refl
-    long (k ∷ ks) = ap suc (long ks)
+    (let m = length-map (d .links) edgeFrom in sets-eq (map edgeFrom (d .links)) (replicate mostLinks noEdge) 0 (rw length-replicate (omega arith)))

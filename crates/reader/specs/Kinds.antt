@@ -9,7 +9,7 @@ use lib.Dec.{eqb, leb}
 use borrow.Author.Tests.{eqb-true, leb-true, leb-false}
 use Rattle.drawing.specs.Read.{Record, bodies, every, linesThenLinks, kindsFit}
 use Rattle.records.specs.Walk.{recordsFrom, none-left}
-use Rattle.reader.specs.Tally.{bodies-here, bodies-other}
+use Rattle.reader.specs.Tally.{or-false, bodies-here, bodies-other}
 
 abbrev pub allLinks : List Record → Bool
 allLinks rs = every (λ (l : Record). eqb (l .kind) 3) rs
@@ -33,10 +33,6 @@ links-no-lines (r ∷ rs) h =
     let k = c .0 in
     bodies-other 2 r rs (λ q. omega arith) ∙ links-no-lines rs (c .1)
 
-or-false : (b : Bool) → b || false ≡ true → b ≡ true
-or-false true h = refl
-or-false false h = h
-
 -- while bodies of lines are left, a line is next
 pub line-next : (r : Record) (rs : List Record) → linesThenLinks (r ∷ rs) ≡ true → 0 < length (bodies 2 (r ∷ rs)) → (r .kind ≡ 2) × (linesThenLinks rs ≡ true)
 unfolding linesThenLinks every
@@ -44,7 +40,7 @@ line-next r rs h some = go (eqb (r .kind) 2) refl (eqb (r .kind) 3) refl
   where
     go : (b : Bool) → eqb (r .kind) 2 ≡ b → (d : Bool) → eqb (r .kind) 3 ≡ d → (r .kind ≡ 2) × (linesThenLinks rs ≡ true)
     go true e true f = let k = eqb-true (r .kind) 2 e in let l = eqb-true (r .kind) 3 f in absurd (omega arith)
-    go true e false f = (eqb-true (r .kind) 2 e, or-false (linesThenLinks rs) (sym (rw (e, f)) ∙ h))
+    go true e false f = (eqb-true (r .kind) 2 e, sym (or-false (linesThenLinks rs)) ∙ sym (rw (e, f)) ∙ h)
     go false e d f =
         let all : allLinks (r ∷ rs) ≡ true = sym (rw e) ∙ h in
         let z = ap length (links-no-lines (r ∷ rs) all) in

@@ -3,8 +3,8 @@ use Prim.Native.Nat.{ℕ, zero, suc, _+_, _-_, _≤_, _<_}
 use native.Mathlib.Nat.{add-zero, zero-add, sub-zero, zero-sub}
 use native.Mathlib.Omega.{arith}
 use mathlib.Core.Path.{_≡_, refl, sym, ap, _∙_}
-use mathlib.Core.List.{List, [], _∷_, _++_, map}
-use lib.ListN.{length, getD, take, drop, set, replicate, length-append, length-replicate}
+use mathlib.Core.List.{List, [], _∷_, _++_, map, map-append}
+use lib.ListN.{length, getD, take, drop, set, replicate, length-append, length-replicate, length-map}
 use lib.Seq.{sets, sets-eq, length-sets}
 use Rattle.drawing.specs.Drawing.{Point}
 use Rattle.drawing.specs.Read.{total}
@@ -49,18 +49,10 @@ module _ {A : Type 0} where
   sets-padded n z vs h =
       sets-eq vs (replicate n z) 0 (rw length-replicate (omega arith)) ∙ ap (λ (r : List A). vs ++ r) (ap (λ (k : ℕ). drop k (replicate n z)) (zero-add (length vs)) ∙ drop-replicate (length vs) n z)
 
-pub map-append : {A B : Type 0} (f : A → B) (a b : List A) → map f (a ++ b) ≡ map f a ++ map f b
-map-append f [] b = refl
-map-append f (x ∷ a) b = ap (λ l. f x ∷ l) (map-append f a b)
-
 module _ {A : Type 0} (f : A → ℕ) where
   -- one run after another
   pub sets-map : (l : List ℕ) (i : ℕ) (a b : List A) → sets l i (map f (a ++ b)) ≡ sets (sets l i (map f a)) (i + length a) (map f b)
-  sets-map l i a b = ap (sets l i) (map-append f a b) ∙ sets-append l i (map f a) (map f b) ∙ ap (λ (k : ℕ). sets (sets l i (map f a)) (i + k) (map f b)) (long a)
-    where
-      long : (a : List A) → length (map f a) ≡ length a
-      long [] = refl
-      long (x ∷ a) = ap suc (long a)
+  sets-map l i a b = ap (sets l i) (map-append f a b) ∙ sets-append l i (map f a) (map f b) ∙ ap (λ (k : ℕ). sets (sets l i (map f a)) (i + k) (map f b)) (length-map a f)
 
 pub length-flat : (ls : List (List Point)) → length (flat ls) ≡ total (map (λ (l : List Point). length l) ls)
 unfolding flat total

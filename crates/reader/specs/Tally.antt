@@ -81,7 +81,7 @@ links-only (r ∷ rs) = go (eqb (r .kind) 3) refl (links-only rs)
     go true k ih = rw k ih
     go false k ih = rw k (broken rs)
 
-or-false : (b : Bool) → b || false ≡ b
+pub or-false : (b : Bool) → b || false ≡ b
 or-false true = refl
 or-false false = refl
 
@@ -172,7 +172,7 @@ lengths-cons r rs = go (kind-of (r .kind))
     go (third e) = rw (bodies-other 1 r rs (λ q. omega arith), bodies-other 2 r rs (λ q. omega arith), bodies-here 3 r rs e, e) (shift3 (eqb (length (r .body)) 40) (one rs) (two rs) (three rs))
     go (none p q s) = rw (bodies-other 1 r rs p, bodies-other 2 r rs q, bodies-other 3 r rs s, ne-eqb (r .kind) 1 p, ne-eqb (r .kind) 2 q, ne-eqb (r .kind) 3 s)
 
-and-assoc : (a b c : Bool) → (a && b) && c ≡ a && (b && c)
+pub and-assoc : (a b c : Bool) → (a && b) && c ≡ a && (b && c)
 and-assoc true b c = refl
 and-assoc false b c = refl
 

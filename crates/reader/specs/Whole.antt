@@ -4,7 +4,7 @@ use native.Mathlib.Omega.{arith}
 use mathlib.Core.Path.{_≡_, refl, sym, ap, _∙_}
 use mathlib.Core.List.{List, [], _∷_, _++_, map}
 use mathlib.Core.Bool.{Bool, true, false, _&&_}
-use lib.ListN.{length, replicate}
+use lib.ListN.{length, replicate, length-map}
 use lib.Dec.{leb}
 use lib.Seq.{sets}
 use borrow.Author.Tests.{leb-true}
@@ -20,7 +20,8 @@ use Rattle.reader.specs.declared.Drawing.{Drawing}
 use Rattle.reader.specs.Held.{settingsIn, settingsBack, noSettings, noEdge}
 use Rattle.reader.specs.Tally.{tallied, noTally, orderFits, kinds, lengths, pointsIn}
 use Rattle.reader.specs.Stores.{padded, flat, xsOf, ysOf, endsFrom, sets-padded, length-flat, length-ends}
-use Rattle.reader.specs.First.{settings-read, bodies-behind, at-lines, lines-tally, points-tally, links-tally, counts-tally, length-map, points-in}
+use Rattle.reader.specs.First.{settings-read, bodies-behind, at-lines, lines-tally, points-tally, links-tally, counts-tally, points-in}
+use Rattle.reader.specs.Coordinates.{and-first, and-second}
 use Rattle.reader.specs.Lines.{AtLines, LinesRead, linesFrom}
 use Rattle.reader.specs.Links.{AtLinks, edgesFrom}
 use Rattle.reader.specs.Fit.{edgesHeld, links-are}
@@ -44,14 +45,6 @@ settings-tell file w k l s b v e h i = sym (h ∙ ap (λ (s : Settings). setting
 
 -- ---- the drawing of a file that checks 1 to 7 pass
 
-and-first : (a b : Bool) → a && b ≡ true → a ≡ true
-and-first true b h = refl
-and-first false b h = h
-
-and-second : (a b : Bool) → a && b ≡ true → b ≡ true
-and-second true b h = h
-and-second false b h = let z : _≡_ {A = ℕ} 0 1 = cc in absurd (omega arith)
-
 pub few-of : (d : drawn.Drawing) → countsFit d ≡ true → (length (d .lines) ≤ mostLines) × (total (map (λ (l : List drawn.Point). length l) (d .lines)) ≤ mostPoints) × (length (d .links) ≤ mostLinks)
 unfolding countsFit
 few-of d h =
@@ -70,7 +63,7 @@ filled-as : {A : Type 0} (n : ℕ) (z : A) (a vs ws : List A) → a ≡ sets (re
 filled-as n z a vs ws e i h = e ∙ ap (sets (replicate n z) 0) i ∙ sets-padded n z ws h
 
 places-as : (g : drawn.Point → ℕ) (ls ms : List (List drawn.Point)) (a : List ℕ) → a ≡ sets (replicate mostPoints 0) 0 (map g (flat ls)) → ls ≡ ms → total (map (λ (l : List drawn.Point). length l) ms) ≤ mostPoints → a ≡ padded mostPoints 0 (map g (flat ms))
-places-as g ls ms a e i h = filled-as mostPoints 0 a (map g (flat ls)) (map g (flat ms)) e (ap (λ (ls : List (List drawn.Point)). map g (flat ls)) i) (rw (length-map g (flat ms), length-flat ms) h)
+places-as g ls ms a e i h = filled-as mostPoints 0 a (map g (flat ls)) (map g (flat ms)) e (ap (λ (ls : List (List drawn.Point)). map g (flat ls)) i) (rw (length-map (flat ms) g, length-flat ms) h)
 
 starts-as : (ls ms : List (List drawn.Point)) (a : List ℕ) → a ≡ sets (replicate (mostLines + 1) 0) 1 (endsFrom 0 ls) → ls ≡ ms → length ms ≤ mostLines → a ≡ padded (mostLines + 1) 0 (0 ∷ endsFrom 0 ms)
 starts-as ls ms a e i h = let m = length-ends 0 ms in filled-as (mostLines + 1) 0 a (0 ∷ endsFrom 0 ls) (0 ∷ endsFrom 0 ms) e (ap (λ (ls : List (List drawn.Point)). 0 ∷ endsFrom 0 ls) i) (omega arith)
@@ -81,7 +74,7 @@ module _ (file : List ℕ) (p : Passed file) (t : Tally) (e : t ≡ tallied (rec
   lines-ready =
       let f = few-of (drawingOf (recordsOf file)) (p .few) in
       let n = lines-tally (recordsOf file) t e in
-      at-lines file (p .is-whole) (p .in-order) (p .long) (t .lines) (sym (n ∙ length-map lineOf (bodies 2 (recordsOf file)))) (rw n (f .0)) (rw (points-in (bodies 2 (recordsOf file))) at (f .1))
+      at-lines file (p .is-whole) (p .in-order) (p .long) (t .lines) (sym (n ∙ length-map (bodies 2 (recordsOf file)) lineOf)) (rw n (f .0)) (rw (points-in (bodies 2 (recordsOf file))) at (f .1))
 
   pub links-ready : (r : Lines) → LinesRead file 16 r → AtLinks file (r .end) (t .links)
   unfolding drawingOf
@@ -94,7 +87,7 @@ module _ (file : List ℕ) (p : Passed file) (t : Tally) (e : t ≡ tallied (rec
         is-whole = l .end-whole;
         only-links = l .links-left;
         lengths-fit = l .end-lengths;
-        counted = ap length (l .same-links ∙ sym b) ∙ sym (n ∙ length-map linkOf (bodies 3 (recordsOf file)));
+        counted = ap length (l .same-links ∙ sym b) ∙ sym (n ∙ length-map (bodies 3 (recordsOf file)) linkOf);
         few-links = rw n (f .2);
       }
 
@@ -108,7 +101,7 @@ module _ (file : List ℕ) (p : Passed file) (t : Tally) (e : t ≡ tallied (rec
       let w = p .is-whole in
       let lines-are : linesFrom file 16 ≡ map lineOf (bodies 2 rs) = ap (map lineOf) (sym (bodies-behind file w (p .in-order) (p .long) 2 (λ q. omega arith))) in
       let links-are : edgesFrom file (r .end) ≡ map edgeFrom (map linkOf (bodies 3 rs)) = ap (λ (bs : List (List ℕ)). map edgeFrom (map linkOf bs)) (l .same-links ∙ sym (bodies-behind file w (p .in-order) (p .long) 3 (λ q. omega arith))) in
-      let few-e : length (map edgeFrom (map linkOf (bodies 3 rs))) ≤ mostLinks = rw (length-map edgeFrom (map linkOf (bodies 3 rs))) (f .2) in
+      let few-e : length (map edgeFrom (map linkOf (bodies 3 rs))) ≤ mostLinks = rw (length-map (map linkOf (bodies 3 rs)) edgeFrom) (f .2) in
       same-drawing s (settingsFrom (d .settings)) (t .lines) (length (d .lines)) (t .points) (length (flat (d .lines))) (t .links) (length (d .links)) (r .starts) (padded (mostLines + 1) 0 (0 ∷ endsFrom 0 (d .lines))) (r .xs) (padded mostPoints 0 (xsOf (flat (d .lines)))) (r .ys) (padded mostPoints 0 (ysOf (flat (d .lines)))) edges (padded mostLinks noEdge (map edgeFrom (d .links)))
       (i ∙ settings-read file w (p .in-order) (p .long)) (lines-tally rs t e) (points-tally rs t e ∙ sym (length-flat (d .lines))) (links-tally rs t e)
       (starts-as (linesFrom file 16) (d .lines) (r .starts) (l .starts-are) lines-are (f .0))
@@ -132,7 +125,7 @@ module _ (file : List ℕ) (p : Passed file) (d : Drawing) (e : d ≡ drawingHel
       let f = few-of a (p .few) in
       let m = length-ends 0 (a .lines) in
       let f0 = f .0 in
-      let few-e : length (map edgeFrom (a .links)) ≤ mostLinks = rw (length-map edgeFrom (a .links)) (f .2) in
+      let few-e : length (map edgeFrom (a .links)) ≤ mostLinks = rw (length-map (a .links) edgeFrom) (f .2) in
       sym
       (h
       ∙ ap (λ (d : Drawing). edgesHeld (d .starts) (d .lines) (d .links) (d .«link_count») 0) e
