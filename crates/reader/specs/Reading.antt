@@ -249,3 +249,45 @@ number-is file = go (refusal.verdict (readConditions file))
     go : (v : refusal.Verdict) → numberIn (verdictFrom v) ≡ numberOf v
     go (refusal.refused n) = refl
     go refusal.accepted = refl
+
+-- ---- what an accepted file is known by
+
+pub record Taken (file : List ℕ) : Type 0 where
+  pub passes : Passed file
+  pub links-fit : linksFit (drawingOf (recordsOf file)) ≡ true
+  pub drawing-is : readingOf file .drawing ≡ drawingHeld (drawingOf (recordsOf file))
+
+not-refused : (n : ℕ) (b : Bool) (cs : List refusal.Condition) → refusal.verdict (refusal.condition n b ∷ cs) ≡ refusal.accepted → (b ≡ false) × (refusal.verdict cs ≡ refusal.accepted)
+unfolding refusal.verdict
+not-refused n true cs h = let z : _≡_ {A = ℕ} 0 1 = cc in absurd (omega arith)
+not-refused n false cs h = (refl, h)
+
+accepted-only : (v : refusal.Verdict) → verdictFrom v ≡ Accepted → v ≡ refusal.accepted
+accepted-only (refusal.refused n) h = let z : _≡_ {A = ℕ} 0 1 = cc in absurd (omega arith)
+accepted-only refusal.accepted h = refl
+
+pub taken : (file : List ℕ) → readingOf file .verdict ≡ Accepted → Taken file
+unfolding readingOf seven
+taken file h =
+    let v = accepted-only (refusal.verdict (readConditions file)) h in
+    let p1 = not-refused 1 _ _ (ap refusal.verdict (sym (conditions-are file)) ∙ v) in
+    let p2 = not-refused 2 _ _ (p1 .1) in
+    let p3 = not-refused 3 _ _ (p2 .1) in
+    let p4 = not-refused 4 _ _ (p3 .1) in
+    let p5 = not-refused 5 _ _ (p4 .1) in
+    let p6 = not-refused 6 _ _ (p5 .1) in
+    let p7 = not-refused 7 _ _ (p6 .1) in
+    let p8 = not-refused 8 _ _ (p7 .1) in
+    record {
+      passes = record {
+        small = ltb-false mostBytes (length file) (p1 .0);
+        is-whole = p2 .0;
+        in-order = not-false _ (p3 .0);
+        long = not-false _ (p4 .0);
+        settings-fit = not-false _ (p5 .0);
+        few = not-false _ (p6 .0);
+        on-grid = not-false _ (p7 .0);
+      };
+      links-fit = not-false _ (p8 .0);
+      drawing-is = ap (λ (v : refusal.Verdict). drawingHeld (drawingIf v file)) v;
+    }
