@@ -56,6 +56,9 @@ writeOnGrid g p = toBits binary64 (coordinateOnGrid g p)
 abbrev pub origin : ℕ
 origin = originOfGrid gridExponent
 
+abbrev pub placeOf : Float → Place
+placeOf x = placeOnGrid gridExponent x
+
 abbrev pub readPlace : ℕ → Place
 readPlace b = readOnGrid gridExponent b
 

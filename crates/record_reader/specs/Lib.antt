@@ -1,0 +1,2 @@
+-- What the record reader hands out.
+pub mod Part
