@@ -3,7 +3,7 @@
 use mathlib.Core.Path.{_≡_, ap, sym, _∙_}
 use mathlib.Core.Bool.{Bool, cond}
 use Prim.Native.Nat.{ℕ, zero, suc, _+_, _-_, _*_, _/_, _%_, _^_, _≤_, _<_}
-use native.Mathlib.Nat.{lt-irrefl, mul-le-mul, mul-le-mul-right, mod-lt, div-add-mod', lt-div-mul-add, div-lt-iff-lt-mul}
+use native.Mathlib.Nat.{lt-irrefl, mul-le-mul, mod-lt, div-add-mod', lt-div-mul-add, div-lt-iff-lt-mul}
 use native.Mathlib.Decide.{decLe}
 use native.Mathlib.Omega.{arith}
 use lib.Dec.{ltb}
@@ -38,18 +38,18 @@ mean-above m s p = mean-reaches m s (m / s) ((s + m / s) / 2) (lt-div-mul-add p)
 pub quotient-lt : (m s c : ℕ) → 0 < s → m < s * c → m / s < c
 quotient-lt m s c p h = div-lt-iff-lt-mul {k = s} {x = m} {y = c} p .1 (omega arith)
 
--- what a step gives, where m has its root from k up to 2k
-pub record Mean (k m r : ℕ) : Type 0 where
+-- what a step gives, where the root of m is k at least
+pub record Mean (k c m r : ℕ) : Type 0 where
   pub reached : m < square (r + 1)
   pub low : k ≤ r
-  pub high : r < 4 * k
+  pub high : r < c
 
-pub mean : (k m s r : ℕ) → 0 < k → square k ≤ m → m < square (2 * k) → k ≤ s → s < 4 * k → r ≡ (s + m / s) / 2 → Mean k m r
-mean k m s r K low high at-least below e =
-    let above : m < square (r + 1) = rw e (mean-above m s (omega arith)) in
-    let q : m / s < 4 * k = quotient-lt m s (4 * k) (omega arith) (omega (arith, mul-le-mul-right (4 * k) at-least)) in
-    record { reached = above; low = omega (arith, root-lt m k (r + 1) low above); high = omega arith }
+pub mean : (k c m s : ℕ) → square k ≤ m → 0 < s → s < c → m < s * c → Mean k c m ((s + m / s) / 2)
+mean k c m s low p below high =
+    let q = quotient-lt m s c p high in
+    record { reached = mean-above m s p; low = omega (arith, root-lt m k ((s + m / s) / 2 + 1) low (mean-above m s p)); high = omega arith }
 
+-- ---- roots by what is left of the number
 square-pred : (s : ℕ) → 0 < s → square (s - 1) + 2 * s ≡ square s + 1
 square-pred zero h = absurd (lt-irrefl 0 h)
 square-pred (suc s) h = let e : suc s - 1 ≡ s = omega arith in rw e (omega arith)
@@ -114,6 +114,7 @@ module _ (m root rest : ℕ) (p : Rooted m root rest) (normal : 2 ^ 62 ≤ m) (w
   pub in-range : InRange
   in-range = record { root-long = long; root-fits = fits; rest-small = p .small; remainder = remainder-lt; quotient = quotient-le; quotient-squared = mul-le-mul quotient-le quotient-le }
 
+  -- what is left, t * 2 ^ 22, is what q * q is still to be taken from
   exact : m * 4 ^ 21 + q * q ≡ square s + t * 2 ^ 22
   exact = omega (arith, p .whole, divided)
 
@@ -129,7 +130,7 @@ module _ (m root rest : ℕ) (p : Rooted m root rest) (normal : 2 ^ 62 ≤ m) (w
   pub rounded-up : s + q * q < t * 2 ^ 22 → s + 1 ≡ nearRoot 53 (m * 4 ^ 21)
   rounded-up h = near-up 53 (m * 4 ^ 21) s (t * 2 ^ 22 - q * q) short (fitted (omega arith)) (omega arith)
 
-  -- and then one less is rounded up to s
+  -- where q * q does not fit, the whole root is one less, and s is the nearest
   pub rounded-down : t * 2 ^ 22 ≤ s + q * q → s ≡ nearRoot 53 (m * 4 ^ 21)
   rounded-down h =
       elim (decLe (q * q) (t * 2 ^ 22)) [
