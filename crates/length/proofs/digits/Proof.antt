@@ -1,29 +1,62 @@
--- `length::digits` meets its contract: the root of m * 4 ^ 21 is m's, with 21 digits more, and is rounded by its rest.
+-- `length::digits` meets its contract: Zimmermann's step of `specs/Steps.antt`, rounded.
 use native.Mathlib.Omega.{arith}
-use Prim.Native.Nat.{_*_, _^_}
+use Rattle.length.specs.Steps.{InRange, in-range, rounded-up, rounded-down}
 use borrow.Author.Needs.{needs}
-use lib.Dec.{lit<, lit≤}
-use Rattle.length.specs.Steps.{Rooted, rooted-lt, extends, extended, near-up, near-down}
 use Rattle.length.proofs.digits.Statement.{statement}
 use Rattle.length.proofs.digits.Tie as tie
 
-long : (c : tie.After-extend) → Rooted (c .before .before .args .m * 4 ^ 21) (c .extend .result .root) (c .extend .result .rest)
-long c = extended (c .before .before .args .m * 4 ^ 21) 0 0 (2 ^ 21) (c .before .whole-root .ensures) (c .extend .ensures) (omega arith)
+ranges : (c : tie.After-whole-root) → InRange (c .before .args .m) (c .whole-root .result .root) (c .whole-root .result .rest) (c .whole-root .ensures) (c .before .pre) (c .before .fits .m .fits)
+ranges c = in-range _ _ _ (c .whole-root .ensures) (c .before .pre) (c .before .fits .m .fits)
 
 whole-root-requires : tie.Need-whole-root-requires
 whole-root-requires c κs = search needs
 
-extend-requires : tie.Need-extend-requires
-extend-requires c κs = extends (2 ^ 31) _ _ _ 0 0 (2 ^ 21) (c .before .pre) (c .before .fits .m .fits) (lit≤ tt) (lit≤ tt) (lit≤ tt) (lit< tt) (lit< tt) (c .whole-root .ensures)
+mul-n : tie.Need-mul-n
+mul-n c = let r = ranges (c .before) in omega arith
+
+div-q : tie.Need-div-q
+div-q c = let r = ranges (c .before .before) in omega arith
+
+mul-root : tie.Need-mul-root
+mul-root c = let r = ranges (c .before .before .before) in omega arith
+
+add-root : tie.Need-add-root
+add-root c = let r = ranges (c .before .before .before) in omega arith
+
+mul-if1 : tie.Need-mul-if1
+mul-if1 c = let r = ranges (c .before .before .before) in omega arith
+
+add-if1 : tie.Need-add-if1
+add-if1 c = let r = ranges (c .before .before .before) in omega arith
+
+rem-if1 : tie.Need-rem-if1
+rem-if1 c = let r = ranges (c .before .before .before .before) in omega arith
+
+mul-if1-2 : tie.Need-mul-if1-2
+mul-if1-2 c = let r = ranges (c .before .before .before .before) in omega arith
 
 add-result : tie.Need-add-result
-add-result c = omega (arith, rooted-lt _ _ _ (2 ^ 53) (long (c .before .before .before)) (omega (arith, c .before .before .before .before .before .fits .m .fits)))
+add-result c = let r = ranges (c .before .before .before .before .before) in omega arith
 
 returns : tie.Need-returns
-returns c = near-up 53 _ _ _ (omega (arith, c .before .before .before .before .before .fits .m .fits)) (long (c .before .before .before)) (c .before .if1 .taken)
+returns c = rounded-up _ _ _ (c .before .before .before .before .before .whole-root .ensures) (c .before .before .before .before .before .before .pre) (c .before .before .before .before .before .before .fits .m .fits) (c .if1 .taken)
 
 returns-2 : tie.Need-returns-2
-returns-2 c = near-down 53 _ _ _ (omega (arith, c .before .before .before .before .fits .m .fits)) (long (c .before .before)) (c .if1 .left)
+returns-2 c = rounded-down _ _ _ (c .before .before .before .before .before .whole-root .ensures) (c .before .before .before .before .before .before .pre) (c .before .before .before .before .before .before .fits .m .fits) (c .if1 .left)
 
 pub digits-spec : {M : Type 1} → statement M
-digits-spec = tie.close (tie.spec whole-root-requires extend-requires add-result returns returns-2)
+digits-spec =
+    tie.close
+    (tie.spec
+    whole-root-requires
+    mul-n
+    div-q
+    mul-root
+    add-root
+    mul-if1
+    add-if1
+    rem-if1
+    mul-if1-2
+    add-result
+    returns
+    returns-2)

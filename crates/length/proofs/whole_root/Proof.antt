@@ -1,37 +1,82 @@
--- `length::whole_root` meets its contract: each step's number is the top of m, with twice as many digits in its root as the one before.
+-- `length::whole_root` meets its contract. The loop's invariant: m's root is no more than `root`, which has 32 digits at most. The measure is `root`.
+use mathlib.Core.Path.{_≡_}
+use mathlib.Core.Logic.{⊎-elim}
+use Prim.Native.Nat.{ℕ, _+_, _-_, _*_, _/_, _^_, _≤_, _<_, zero-le}
+use native.Mathlib.Nat.{mul-le-mul}
 use native.Mathlib.Omega.{arith}
-use Prim.Native.Nat.{_/_, _^_}
-use lib.Dec.{lit≤}
-use Rattle.length.specs.Steps.{Rooted, extends, extended}
+use lib.Dec.{lit<}
+use mir.Syntax.{w64}
+use mir.Val.{Fits}
+use Rattle.length.specs.Root.{square}
+use Rattle.length.specs.Whole.{root-lt}
+use Rattle.length.specs.Steps.{Mean, mean}
 use Rattle.length.proofs.whole_root.Statement.{statement}
 use Rattle.length.proofs.whole_root.Tie as tie
 
-four : (c : tie.After-extend) → Rooted (c .before .before .args .m / 2 ^ 56) (c .extend .result .root) (c .extend .result .rest)
-four c = extended (c .before .before .args .m / 2 ^ 56) _ _ 4 (c .before .first .ensures) (c .extend .ensures) (omega arith)
+abbrev Inv-loop : tie.InvT-loop
+Inv-loop m s root₀ root = (root < 2 ^ 32) × (m < square (root + 1))
 
-eight : (c : tie.After-extend2) → Rooted (c .before .before .before .args .m / 2 ^ 48) (c .extend2 .result .root) (c .extend2 .result .rest)
-eight c = extended (c .before .before .before .args .m / 2 ^ 48) _ _ 16 (four (c .before)) (c .extend2 .ensures) (omega arith)
+abbrev μ-loop : tie.MeasureT-loop
+μ-loop m s root₀ root = root
 
-sixteen : (c : tie.After-extend3) → Rooted (c .before .before .before .before .args .m / 2 ^ 32) (c .extend3 .result .root) (c .extend3 .result .rest)
-sixteen c = extended (c .before .before .before .before .args .m / 2 ^ 32) _ _ 256 (eight (c .before)) (c .extend3 .ensures) (omega arith)
+near : (c : tie.After-guess Inv-loop μ-loop) → Mean (2 ^ 31) (2 ^ 35) (c .before .args .m) ((c .guess .result + c .before .args .m / c .guess .result) / 2)
+near c = mean (2 ^ 31) (2 ^ 35) _ _ (omega arith) (omega arith) (omega arith) (omega arith)
 
-first-requires : tie.Need-first-requires
-first-requires c κs = omega arith
+positive : (c : tie.In-loop Inv-loop μ-loop) → 0 < c .before .loop .root
+positive c = root-lt _ 0 _ zero-le (c .loop-test .taken)
 
-extend-requires : tie.Need-extend-requires
-extend-requires c κs = extends 2 _ _ _ _ _ 4 (omega arith) (omega arith) (lit≤ tt) (lit≤ tt) (lit≤ tt) (omega arith) (omega arith) (c .first .ensures)
+fits : (x : ℕ) → x < 2 ^ 32 → Fits w64 (x * x)
+fits x h = let l : x ≤ 2 ^ 32 - 1 = omega arith in omega (arith, mul-le-mul l l)
 
-extend-requires-2 : tie.Need-extend-requires-2
-extend-requires-2 c κs = extends 8 _ _ _ _ _ 16 (omega arith) (omega arith) (lit≤ tt) (lit≤ tt) (lit≤ tt) (omega arith) (omega arith) (four c)
+guess-requires : tie.Need-guess-requires Inv-loop μ-loop
+guess-requires c κs = omega arith
 
-extend-requires-3 : tie.Need-extend-requires-3
-extend-requires-3 c κs = extends 128 _ _ _ _ _ 256 (omega arith) (omega arith) (lit≤ tt) (lit≤ tt) (lit≤ tt) (omega arith) (omega arith) (eight c)
+div-root : tie.Need-div-root Inv-loop μ-loop
+div-root c = omega arith
 
-extend-requires-4 : tie.Need-extend-requires-4
-extend-requires-4 c κs = extends 32768 _ _ _ _ _ 65536 (omega arith) (omega arith) (lit≤ tt) (lit≤ tt) (lit≤ tt) (omega arith) (omega arith) (sixteen c)
+add-root : tie.Need-add-root Inv-loop μ-loop
+add-root c = omega (arith, near c)
 
-returns : tie.Need-returns
-returns c = extended (c .before .before .before .before .before .args .m) _ _ 65536 (sixteen (c .before)) (c .extend4 .ensures) (omega arith)
+loop-holds : tie.Need-loop-holds Inv-loop μ-loop
+loop-holds c = ⊎-elim (λ w. rw (w .1) (lit< tt, c .before .before .fits .m .fits)) (λ w. rw (w .1) (omega arith, near (c .before) .reached)) (c .if1 .came)
+
+mul-loop : tie.Need-mul-loop Inv-loop μ-loop
+mul-loop c = fits (c .loop .root) (c .loop .inv .0)
+
+sub-root : tie.Need-sub-root Inv-loop μ-loop
+sub-root c = positive (c .before)
+
+loop-less : tie.Need-loop-less Inv-loop μ-loop
+loop-less c = omega (arith, positive (c .before))
+
+loop-again : tie.Need-loop-again Inv-loop μ-loop
+loop-again c =
+    let e : c .before .before .loop .root - 1 + 1 ≡ c .before .before .loop .root = omega (arith, positive (c .before)) in
+    (omega arith, rw e (c .before .loop-test .taken))
+
+mul-t4 : tie.Need-mul-t4 Inv-loop μ-loop
+mul-t4 c = fits (c .before .before .loop .root) (c .before .before .loop .inv .0)
+
+sub-t5 : tie.Need-sub-t5 Inv-loop μ-loop
+sub-t5 c = omega arith
+
+returns : tie.Need-returns Inv-loop μ-loop
+returns c = record { whole = omega arith; small = omega arith }
 
 pub whole-root-spec : {M : Type 1} → statement M
-whole-root-spec = tie.close (tie.spec first-requires extend-requires extend-requires-2 extend-requires-3 extend-requires-4 returns)
+whole-root-spec =
+    tie.close
+    (tie.spec
+    Inv-loop
+    μ-loop
+    guess-requires
+    div-root
+    add-root
+    loop-holds
+    mul-loop
+    sub-root
+    loop-less
+    loop-again
+    mul-t4
+    sub-t5
+    returns)
