@@ -1,11 +1,15 @@
 -- The answer to a drawing file, and demand 3.
+-- Definitions; demand 3 is stated in Demand3, in the words of Words:
 pub mod Plan
 pub mod Words
+pub mod Demand3
+-- The starred drawings:
+pub mod Samples
+-- The proof of demand 3, whose end is Proved:
+pub mod Drawn
+pub mod Written
 pub mod Counted
 pub mod LineEnds
-pub mod Demand3
 pub mod Proved
+-- Nothing but the file decides an accepted answer:
 pub mod FileDecides
-pub mod Samples
-pub mod Written
-pub mod Drawn
