@@ -46,7 +46,7 @@ node-point (q ∷ qs) p h = go (same p q) refl (node-point qs p)
     go false e r = rw (later p q qs e) (r (omega (arith, later p q qs e)))
 
 -- points put behind do not change the numbers of those in front
-front : (ns ms : List Point) (p : Point) → nodeOf ns p < length ns → nodeOf (ns ++ ms) p ≡ nodeOf ns p
+pub front : (ns ms : List Point) (p : Point) → nodeOf ns p < length ns → nodeOf (ns ++ ms) p ≡ nodeOf ns p
 front [] ms p h = absurd (not-suc-le-zero h)
 front (q ∷ qs) ms p h = go (same p q) refl (front qs ms p)
   where
@@ -55,13 +55,23 @@ front (q ∷ qs) ms p h = go (same p q) refl (front qs ms p)
     go false e r = rw (later p q (qs ++ ms) e, later p q qs e) (ap suc (r (omega (arith, later p q qs e))))
 
 -- and a point that is none of them is numbered after them
-behind : (ns : List Point) (p : Point) → length ns ≤ nodeOf ns p → nodeOf (ns ++ (p ∷ [])) p ≡ length ns
+pub behind : (ns : List Point) (p : Point) → length ns ≤ nodeOf ns p → nodeOf (ns ++ (p ∷ [])) p ≡ length ns
 behind [] p h = first p p [] (same-refl p)
 behind (q ∷ qs) p h = go (same p q) refl (behind qs p)
   where
     go : (t : Bool) → same p q ≡ t → (length qs ≤ nodeOf qs p → nodeOf (qs ++ (p ∷ [])) p ≡ length qs) → nodeOf (q ∷ (qs ++ (p ∷ []))) p ≡ suc (length qs)
     go true e r = absurd (omega (arith, first p q qs e))
     go false e r = rw (later p q (qs ++ (p ∷ [])) e) (ap suc (r (omega (arith, later p q qs e))))
+
+-- a point that is neither one of them nor the one put behind them
+pub neither : (ns : List Point) (p b : Point) → length ns ≤ nodeOf ns p → same p b ≡ false → nodeOf (ns ++ (b ∷ [])) p ≡ suc (length ns)
+unfolding find
+neither [] p b h d = later p b [] d
+neither (q ∷ qs) p b h d = go (same p q) refl (λ k. neither qs p b k d)
+  where
+    go : (t : Bool) → same p q ≡ t → (length qs ≤ nodeOf qs p → nodeOf (qs ++ (b ∷ [])) p ≡ suc (length qs)) → nodeOf (q ∷ (qs ++ (b ∷ []))) p ≡ suc (suc (length qs))
+    go true e r = absurd (omega (arith, first p q qs e))
+    go false e r = rw (later p q (qs ++ (b ∷ [])) e) (ap suc (r (omega (arith, later p q qs e))))
 
 -- ---- nodes with one number each
 

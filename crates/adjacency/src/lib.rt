@@ -1,0 +1,80 @@
+// The edges of a graph in flat arrays, with a list of each node's edges.
+//
+// An arc is an edge seen from one of its ends: edge e has the arc e + 1 from its second end and the arc
+// e + 4002 from its first; 0 is no arc. `ends` has at k - 1 the node that arc k leads to, `next` at k - 1
+// the arc of the next older edge that has the same node as the same end. `heads` has the newest arc of
+// each node v: at v by first ends, at v + 1534 by second ends.
+ghost use mathlib.Core.Path.{_≡_};
+ghost use Prim.Native.Nat.{_<_, _≤_};
+ghost use lib.ListN.{getD};
+ghost use lib.Ieee.{nan};
+ghost use Rattle.adjacency.specs.Lists.{adjacency, push, firstArc, nextArc, edgeNumber};
+
+// The arrays with edge number e, from u to v.
+pub fn push_edge(
+    ends: &mut [u16; 8002],
+    weights: &mut [f64; 4001],
+    next: &mut [u16; 8002],
+    heads: &mut [u16; 3068],
+    e: usize,
+    u: usize,
+    v: usize,
+    weight: f64,
+)
+    requires { ⌜ (e < 4001) × (u < 1534) × (v < 1534) ⌝ }
+    ensures { λ _. ⌜ adjacency (now (ends .exit)) (now (weights .exit)) (now (next .exit)) (now (heads .exit)) ≡ push e u v weight (adjacency (now (ends .entry)) (now (weights .entry)) (now (next .entry)) (now (heads .entry))) ⌝ }
+{
+    let first = e + 4001;
+    let second = v + 1534;
+    ends[e] = u as u16;
+    ends[first] = v as u16;
+    weights[e] = weight;
+    next[first] = heads[u];
+    next[e] = heads[second];
+    heads[u] = (e + 4002) as u16;
+    heads[second] = (e + 1) as u16;
+}
+
+fn wide(x: u16) -> usize
+    ensures { λ r. ⌜ r ≡ x ⌝ }
+{
+    x as usize
+}
+
+// The first arc of a node, in the order in which its edges are looked at; 0 where it has none.
+pub fn first_arc(heads: &[u16; 3068], v: usize) -> usize
+    requires { ⌜ v < 1534 ⌝ }
+    ensures { λ r. ⌜ r ≡ firstArc (now (heads .entry)) v ⌝ }
+{
+    let head = wide(heads[v]);
+    if head == 0 {
+        return wide(heads[v + 1534]);
+    }
+    head
+}
+
+// The arc of the node v after its arc k; 0 after the last.
+pub fn next_arc(next: &[u16; 8002], heads: &[u16; 3068], v: usize, k: usize) -> usize
+    requires { ⌜ (0 < k) × (k ≤ 8002) × (v < 1534) ⌝ }
+    ensures { λ r. ⌜ r ≡ nextArc (now (next .entry)) (now (heads .entry)) v k ⌝ }
+{
+    let older = wide(next[k - 1]);
+    if k <= 4001 {
+        return older;
+    }
+    if older == 0 {
+        return wide(heads[v + 1534]);
+    }
+    older
+}
+
+// The number of an arc's edge.
+pub fn edge_number(k: usize) -> usize
+    requires { ⌜ 0 < k ⌝ }
+    ensures { λ r. ⌜ r ≡ edgeNumber k ⌝ }
+{
+    if k <= 4001 {
+        return k - 1;
+    }
+    k - 4002
+}
