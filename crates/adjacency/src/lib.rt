@@ -9,13 +9,18 @@ ghost use Prim.Native.Nat.{_<_, _≤_};
 ghost use lib.ListN.{getD};
 ghost use lib.Ieee.{nan};
 ghost use Rattle.adjacency.specs.Lists.{adjacency, push, firstArc, nextArc, edgeNumber};
+use limits::EDGE_ROOM;
+use limits::MOST_NODES;
+
+// The arc of edge 0 from its first end.
+const FIRST_END: usize = EDGE_ROOM + 1;
 
 // The arrays with edge number e, from u to v.
 pub fn push_edge(
-    ends: &mut [u16; 8002],
-    weights: &mut [f64; 4001],
-    next: &mut [u16; 8002],
-    heads: &mut [u16; 3068],
+    ends: &mut [u16; 2 * EDGE_ROOM],
+    weights: &mut [f64; EDGE_ROOM],
+    next: &mut [u16; 2 * EDGE_ROOM],
+    heads: &mut [u16; 2 * MOST_NODES],
     e: usize,
     u: usize,
     v: usize,
@@ -24,14 +29,14 @@ pub fn push_edge(
     requires { ⌜ (e < 4001) × (u < 1534) × (v < 1534) ⌝ }
     ensures { λ _. ⌜ adjacency (now (ends .exit)) (now (weights .exit)) (now (next .exit)) (now (heads .exit)) ≡ push e u v weight (adjacency (now (ends .entry)) (now (weights .entry)) (now (next .entry)) (now (heads .entry))) ⌝ }
 {
-    let first = e + 4001;
-    let second = v + 1534;
+    let first = e + EDGE_ROOM;
+    let second = v + MOST_NODES;
     ends[e] = u as u16;
     ends[first] = v as u16;
     weights[e] = weight;
     next[first] = heads[u];
     next[e] = heads[second];
-    heads[u] = (e + 4002) as u16;
+    heads[u] = (e + FIRST_END) as u16;
     heads[second] = (e + 1) as u16;
 }
 
@@ -42,28 +47,33 @@ fn wide(x: u16) -> usize
 }
 
 // The first arc of a node, in the order in which its edges are looked at; 0 where it has none.
-pub fn first_arc(heads: &[u16; 3068], v: usize) -> usize
+pub fn first_arc(heads: &[u16; 2 * MOST_NODES], v: usize) -> usize
     requires { ⌜ v < 1534 ⌝ }
     ensures { λ r. ⌜ r ≡ firstArc (now (heads .entry)) v ⌝ }
 {
     let head = wide(heads[v]);
     if head == 0 {
-        return wide(heads[v + 1534]);
+        return wide(heads[v + MOST_NODES]);
     }
     head
 }
 
 // The arc of the node v after its arc k; 0 after the last.
-pub fn next_arc(next: &[u16; 8002], heads: &[u16; 3068], v: usize, k: usize) -> usize
+pub fn next_arc(
+    next: &[u16; 2 * EDGE_ROOM],
+    heads: &[u16; 2 * MOST_NODES],
+    v: usize,
+    k: usize,
+) -> usize
     requires { ⌜ (0 < k) × (k ≤ 8002) × (v < 1534) ⌝ }
     ensures { λ r. ⌜ r ≡ nextArc (now (next .entry)) (now (heads .entry)) v k ⌝ }
 {
     let older = wide(next[k - 1]);
-    if k <= 4001 {
+    if k <= EDGE_ROOM {
         return older;
     }
     if older == 0 {
-        return wide(heads[v + 1534]);
+        return wide(heads[v + MOST_NODES]);
     }
     older
 }
@@ -73,8 +83,8 @@ pub fn edge_number(k: usize) -> usize
     requires { ⌜ 0 < k ⌝ }
     ensures { λ r. ⌜ r ≡ edgeNumber k ⌝ }
 {
-    if k <= 4001 {
+    if k <= EDGE_ROOM {
         return k - 1;
     }
-    k - 4002
+    k - FIRST_END
 }

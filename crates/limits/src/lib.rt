@@ -17,6 +17,17 @@ pub const MOST_POINTS: usize = 1024;
 
 pub const MOST_LINKS: usize = 255;
 
+// Checks 12 and 13: the edges of a repaired graph.
+pub const MOST_EDGES: usize = 4000;
+
+// The walk adds the virtual edge to them.
+pub const EDGE_ROOM: usize = MOST_EDGES + 1;
+
+// Two split points for each link, and a node for each of them and for each point.
+pub const MOST_SPLITS: usize = 2 * MOST_LINKS;
+
+pub const MOST_NODES: usize = MOST_POINTS + MOST_SPLITS;
+
 // The numbers of refusals 1 to 8.
 pub const REFUSED_BYTES: u8 = 1;
 

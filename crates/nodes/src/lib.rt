@@ -5,6 +5,10 @@ ghost use mathlib.Core.Path.{_≡_};
 ghost use mathlib.Core.Bool.{Bool, true, false};
 ghost use Prim.Native.Nat.{_<_, _≤_};
 ghost use Rattle.nodes.specs.Table.{table, hashOf, isAt, seek, inserted, numberIn, tableWith, countWith};
+use limits::MOST_NODES;
+
+// A prime, so that hashes spread.
+pub const BUCKETS: usize = 2039;
 
 fn wide(x: u16) -> usize
     ensures { λ r. ⌜ r ≡ x ⌝ }
@@ -25,11 +29,11 @@ fn hash(x: u32, y: u32) -> usize
 {
     let wx = widened(x);
     let wy = widened(y);
-    (1009 * wx + wy) % 2039
+    (1009 * wx + wy) % BUCKETS
 }
 
 // Whether node i is at x, y.
-fn is_at(xs: &[u32; 1534], ys: &[u32; 1534], x: u32, y: u32, i: usize) -> bool
+fn is_at(xs: &[u32; MOST_NODES], ys: &[u32; MOST_NODES], x: u32, y: u32, i: usize) -> bool
     requires { ⌜ i < 1534 ⌝ }
     ensures { λ r. ⌜ r ≡ isAt (now (xs .entry)) (now (ys .entry)) x y i ⌝ }
 {
@@ -43,9 +47,9 @@ fn is_at(xs: &[u32; 1534], ys: &[u32; 1534], x: u32, y: u32, i: usize) -> bool
 
 // The node at x, y that is found from `start` on, looking at `count` nodes at most; 1534 for none.
 fn find_node(
-    xs: &[u32; 1534],
-    ys: &[u32; 1534],
-    next: &[u16; 1534],
+    xs: &[u32; MOST_NODES],
+    ys: &[u32; MOST_NODES],
+    next: &[u16; MOST_NODES],
     x: u32,
     y: u32,
     start: usize,
@@ -56,8 +60,8 @@ fn find_node(
     let mut i = start;
     let mut left = count;
     while left > 0 {
-        if 1534 <= i {
-            return 1534;
+        if MOST_NODES <= i {
+            return MOST_NODES;
         }
         let at = is_at(xs, ys, x, y, i);
         if at {
@@ -66,15 +70,15 @@ fn find_node(
         i = wide(next[i]);
         left -= 1;
     }
-    1534
+    MOST_NODES
 }
 
 // Puts the new node n at x, y into the arrays.
 fn insert(
-    xs: &mut [u32; 1534],
-    ys: &mut [u32; 1534],
-    next: &mut [u16; 1534],
-    buckets: &mut [u16; 2039],
+    xs: &mut [u32; MOST_NODES],
+    ys: &mut [u32; MOST_NODES],
+    next: &mut [u16; MOST_NODES],
+    buckets: &mut [u16; BUCKETS],
     x: u32,
     y: u32,
     n: usize,
@@ -92,10 +96,10 @@ fn insert(
 // The number of the node at x, y, where there are n nodes. A new node gets the number n, and is put into
 // the arrays; where there is no room for it, the answer is 1534.
 pub fn get_or_insert(
-    xs: &mut [u32; 1534],
-    ys: &mut [u32; 1534],
-    next: &mut [u16; 1534],
-    buckets: &mut [u16; 2039],
+    xs: &mut [u32; MOST_NODES],
+    ys: &mut [u32; MOST_NODES],
+    next: &mut [u16; MOST_NODES],
+    buckets: &mut [u16; BUCKETS],
     x: u32,
     y: u32,
     n: usize,
@@ -106,11 +110,11 @@ pub fn get_or_insert(
     let bucket = hash(x, y);
     let start = wide(buckets[bucket]);
     let found = find_node(xs, ys, next, x, y, start, n);
-    if found < 1534 {
+    if found < MOST_NODES {
         return found;
     }
-    if 1534 <= n {
-        return 1534;
+    if MOST_NODES <= n {
+        return MOST_NODES;
     }
     insert(xs, ys, next, buckets, x, y, n);
     n

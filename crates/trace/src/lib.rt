@@ -6,14 +6,17 @@ ghost use Rattle.adjacency.specs.Lists.{Adjacency, adjacency};
 ghost use Rattle.trace.specs.Trace.{drawn, drawnAs};
 ghost use Rattle.nodes.specs.Table.{table};
 ghost use Rattle.trace.specs.Step.{traced, begun, stepped};
+use limits::EDGE_ROOM;
+use limits::MOST_NODES;
+use nodes::BUCKETS;
 
 // Pushes the edge from node u at p to node v at q, as long as the way between them; nothing where p is q.
 // The answer is the number of edges, of which there were m.
 pub fn draw(
-    ends: &mut [u16; 8002],
-    weights: &mut [f64; 4001],
-    next: &mut [u16; 8002],
-    heads: &mut [u16; 3068],
+    ends: &mut [u16; 2 * EDGE_ROOM],
+    weights: &mut [f64; EDGE_ROOM],
+    next: &mut [u16; 2 * EDGE_ROOM],
+    heads: &mut [u16; 2 * MOST_NODES],
     m: usize,
     u: usize,
     v: usize,
@@ -46,14 +49,14 @@ pub struct Trail {
 // On from p, whose node is u, to q: q's node, which is added where it is new, and the edge to it. Where
 // there is no room for the node, its number is 1534 and nothing is drawn.
 pub fn step(
-    xs: &mut [u32; 1534],
-    ys: &mut [u32; 1534],
-    older: &mut [u16; 1534],
-    buckets: &mut [u16; 2039],
-    ends: &mut [u16; 8002],
-    weights: &mut [f64; 4001],
-    next: &mut [u16; 8002],
-    heads: &mut [u16; 3068],
+    xs: &mut [u32; MOST_NODES],
+    ys: &mut [u32; MOST_NODES],
+    older: &mut [u16; MOST_NODES],
+    buckets: &mut [u16; BUCKETS],
+    ends: &mut [u16; 2 * EDGE_ROOM],
+    weights: &mut [f64; EDGE_ROOM],
+    next: &mut [u16; 2 * EDGE_ROOM],
+    heads: &mut [u16; 2 * MOST_NODES],
     n: usize,
     m: usize,
     u: usize,
@@ -67,7 +70,7 @@ pub fn step(
     ensures { λ r. ⌜ traced (table (now (xs .exit)) (now (ys .exit)) (now (older .exit)) (now (buckets .exit))) (adjacency (now (ends .exit)) (now (weights .exit)) (now (next .exit)) (now (heads .exit))) (r .nodes) (r .edges) (r .node) ≡ stepped (at px py) (at qx qy) (traced (table (now (xs .entry)) (now (ys .entry)) (now (older .entry)) (now (buckets .entry))) (adjacency (now (ends .entry)) (now (weights .entry)) (now (next .entry)) (now (heads .entry))) n m u) ⌝ }
 {
     let v = nodes::get_or_insert(xs, ys, older, buckets, qx, qy, n);
-    if 1534 <= v {
+    if MOST_NODES <= v {
         return Trail {
             nodes: n,
             edges: m,
@@ -86,10 +89,10 @@ pub fn step(
 // On to q, with nothing drawn: q's node, which is added where it is new. The edges, of which there are m,
 // stay as they are, whatever they are, and so does their number.
 pub fn begin(
-    xs: &mut [u32; 1534],
-    ys: &mut [u32; 1534],
-    older: &mut [u16; 1534],
-    buckets: &mut [u16; 2039],
+    xs: &mut [u32; MOST_NODES],
+    ys: &mut [u32; MOST_NODES],
+    older: &mut [u16; MOST_NODES],
+    buckets: &mut [u16; BUCKETS],
     n: usize,
     m: usize,
     qx: u32,
