@@ -64,6 +64,14 @@ pairsOf g s odd =
       | false ↦ greedyPairs (length odd) (g .nodes) odd
     ]
 
+abbrev pub withSum : Float → Repair → Repair
+withSum x r = record { edges = r .edges; retraces = r .retraces; sum = x }
+
+-- x and then the sum of what was repaired
+abbrev pub addSum : Float → Repairing → Repairing
+addSum x (stopped k) = stopped k
+addSum x (repaired r) = repaired (withSum (add binary64 x (r .sum)) r)
+
 -- The two nodes that are left are joined too. This retrace is summed by itself and then added.
 unfoldable pub close : ℕ → Repair → Repairing
 unfolding applyMatching oddFrom add
@@ -71,10 +79,7 @@ close n r =
     let odd = oddNodes n (r .edges) in
     elim (eqb (length odd) 2) [
       | false ↦ repaired r
-      | true ↦ elim (applyMatching n (pair (getD odd 0 0) (getD odd 1 0) ∷ []) (record { edges = r .edges; retraces = r .retraces; sum = zeroLength })) [
-        | stopped k ↦ stopped k
-        | repaired c ↦ repaired (record { edges = c .edges; retraces = c .retraces; sum = add binary64 (r .sum) (c .sum) })
-      ]
+      | true ↦ addSum (r .sum) (applyMatching n (pair (getD odd 0 0) (getD odd 1 0) ∷ []) (withSum zeroLength r))
     ]
 
 unfoldable pub closeIf : Bool → ℕ → Repairing → Repairing

@@ -8,7 +8,6 @@ use mathlib.Core.List.{List, [], _∷_}
 use mathlib.Core.Bool.{Bool, true, false, true≢false}
 use lib.ListN.{length, getD}
 use lib.Dec.{eqb, leb}
-use lib.Ieee.{binary64, add}
 use borrow.Author.Tests.{leb-true, leb-false, eqb-true, eqb-false}
 use Rattle.drawing.specs.Drawing.{Settings, optimal, closing}
 use Rattle.drawing.specs.Members.{either}
@@ -20,7 +19,7 @@ use Rattle.graph.specs.Handshake.{handshake, sum-add, sum-same, sum-none, sum-h
 use Rattle.graph.specs.Occurs.{count, count-odd, count-outside, two-odd}
 use Rattle.repair.specs.Distance.{zeroLength}
 use Rattle.repair.specs.Pairing.{Pair, pair}
-use Rattle.repair.specs.Repair.{Repair, Repairing, stopped, repaired, applyMatching, rows, distanceIn, pairsOf, close, closeIf, drawn, fixParity}
+use Rattle.repair.specs.Repair.{Repair, Repairing, stopped, repaired, withSum, addSum, applyMatching, rows, distanceIn, pairsOf, close, closeIf, drawn, fixParity}
 use Rattle.repair.specs.Pairs.{ends, AllButTwo, greedy-pairs}
 use Rattle.repair.specs.Matched.{optimal-pairs}
 use Rattle.repair.specs.Applied.{WithCopies, nothing-copied, applied, same-repair}
@@ -98,7 +97,7 @@ closed n es r c m e = go (eqb (length odd) 2) refl (applyMatching n last start) 
     last = pair (getD odd 0 0) (getD odd 1 0) ∷ []
 
     start : Repair
-    start = record { edges = r .edges; retraces = r .retraces; sum = zeroLength }
+    start = withSum zeroLength r
 
     none : (length odd ≡ 2 → ⊥) → odd ≡ []
     none h = elim (m .left) [ inl p ↦ p .1 | inr p ↦ absurd (h (p .1)) ]
@@ -106,10 +105,7 @@ closed n es r c m e = go (eqb (length odd) 2) refl (applyMatching n last start) 
     go : (t : Bool) → eqb (length odd) 2 ≡ t → (x : Repairing) → applyMatching n last start ≡ x
         → elim t [
           | false ↦ repaired r
-          | true ↦ elim x [
-            | stopped k ↦ stopped k
-            | repaired c ↦ repaired (record { edges = c .edges; retraces = c .retraces; sum = add binary64 (r .sum) (c .sum) })
-          ]
+          | true ↦ addSum (r .sum) x
         ] ≡ repaired c
         → Closed n es c
     go false t x a e = subst (Closed n es) (same-repair r c e) (record { copied = m .copied; none-odd = none (eqb-false (length odd) 2 t) })

@@ -6,7 +6,6 @@ use mathlib.Core.Bool.{Bool, true, false}
 use Prim.Native.Nat.{ℕ}
 use lib.ListN.{length, getD}
 use lib.Dec.{eqb, leb}
-use lib.Ieee.{binary64, add}
 use Rattle.limits.specs.Limits.{mostEdges}
 use Rattle.drawing.specs.Drawing.{Settings, closing}
 use Rattle.drawing.specs.Members.{either}
@@ -15,7 +14,7 @@ use Rattle.graph.specs.Degree.{oddNodes}
 use Rattle.repair.specs.Distance.{zeroLength}
 use Rattle.repair.specs.Retrace.{Path, found, error, shortestPath, Laid, layPath}
 use Rattle.repair.specs.Pairing.{Pair, pair}
-use Rattle.repair.specs.Repair.{Repair, Repairing, stopped, repaired, applyMatching, pairsOf, close, closeIf, drawn, fixParity}
+use Rattle.repair.specs.Repair.{Repair, Repairing, stopped, repaired, withSum, addSum, applyMatching, pairsOf, close, closeIf, drawn, fixParity}
 
 -- the number of a stop, where there is one, is 12 or 13
 abbrev Known : Repairing → Type 0
@@ -40,8 +39,7 @@ apply-known n (p ∷ ps) r = go (shortestPath n (r .edges) (p .from) (p .to)) (�
         let l = layPath path (record { edges = r .edges; sum = r .sum }) in
         either Known _ _ (h (next path l)) (inr refl) (leb (length (l .edges)) mostEdges)
 
-added-known : (r : Repair) (x : Repairing) → Known x
-    → Known (elim x [ stopped k ↦ stopped k | repaired c ↦ repaired (record { edges = c .edges; retraces = c .retraces; sum = add binary64 (r .sum) (c .sum) }) ])
+added-known : (r : Repair) (x : Repairing) → Known x → Known (addSum (r .sum) x)
 added-known r (stopped k) h = h
 added-known r (repaired c) h = tt
 
@@ -50,7 +48,7 @@ unfolding close
 close-known n r =
     let odd = oddNodes n (r .edges) in
     let last = pair (getD odd 0 0) (getD odd 1 0) ∷ [] in
-    let start : Repair = record { edges = r .edges; retraces = r .retraces; sum = zeroLength } in
+    let start = withSum zeroLength r in
     either Known _ (repaired r) (added-known r (applyMatching n last start) (apply-known n last start)) tt (eqb (length odd) 2)
 
 closeIf-known : (b : Bool) (n : ℕ) (x : Repairing) → Known x → Known (closeIf b n x)
