@@ -1,42 +1,33 @@
--- Hierholzer's walk of 1873: go on along edges not yet used; where none is left at the node in hand, it is taken off and the walk goes on from the one before it.
-use Prim.Native.Nat.{ℕ, zero, suc, _+_, _*_}
-use mathlib.Core.List.{List, [], _∷_}
-use mathlib.Core.Bool.{Bool, true, false}
-use lib.ListN.{length, getD, set, replicate}
-use Rattle.graph.specs.Graph.{Edge, Arc, edgesAt}
+-- The walk from the start that lies best, in flat arrays, is document 01's. Assumes nothing.
+use mathlib.Core.Path.{_≡_}
+use mathlib.Core.List.{List}
+use mathlib.Core.Bool.{Bool}
+use Prim.Native.Nat.{ℕ}
+use lib.ListN.{length, take}
+use Rattle.drawing_spec.specs.Drawing.{Point, Settings}
+use Rattle.graph_spec.specs.Graph.{Edge}
+use Rattle.graph_spec.specs.Ways.{Inside}
+use Rattle.walk_spec.specs.Line.{hierholzer}
+use Rattle.walk_circuit.specs.Standing.{Holds}
+use Rattle.walk_euler.specs.Euler as euler
+use Rattle.graph_node_points.specs.Points.{Drawn}
+use Rattle.graph_node_points.specs.Line.{lineRoom, Nodes}
 
--- How a node was entered: by the edge with a number, or not by an edge, as the first one.
-pub data By : Type 0 where
-  start : By
-  edge : ℕ → By
+-- the arrays hold the graph and the settings
+pub record Given (s : Settings) (ns : List Point) (es : List Edge) (width height : ℕ) (inner : Bool) (xs ys : List ℕ) (n : ℕ) (ends nexts heads : List ℕ) (m : ℕ) : Type 0 where
+  pub drawn : Drawn s ns width height inner xs ys
+  pub count : length ns ≡ n
+  pub holds : Holds es ends nexts heads m
+  pub inside : Inside n es
 
-pub record Entry : Type 0 where
-  pub node : ℕ
-  pub by : By
+-- there are such edges
+pub record Edges (n : ℕ) (ends nexts heads : List ℕ) (m : ℕ) : Type 0 where
+  pub es : List Edge
+  pub holds : Holds es ends nexts heads m
+  pub inside : Inside n es
 
--- the first of a node's edges that is not used
-pub data Next : Type 0 where
-  spent : Next
-  along : ℕ → ℕ → Next
-
-unfoldable pub nextOf : List Bool → List Arc → Next
-nextOf used [] = spent
-nextOf used (r ∷ rs) = elim (getD used (r .number) true) [ false ↦ along (r .number) (r .to) | true ↦ nextOf used rs ]
-
-abbrev pub next : List Edge → List Bool → ℕ → Next
-next es used v = nextOf used (edgesAt es v)
-
--- The node in hand is on top of the stack. What is taken off goes in front of `out`, so that the whole reads from the start on. At most k steps.
-unfoldable pub walk : ℕ → List Edge → List Bool → Entry → List Entry → List Entry → List Entry
-unfolding nextOf edgesAt
-walk zero es used top stack out = top ∷ out
-walk (suc k) es used top stack out =
-    elim (next es used (top .node)) [
-      | along i v ↦ walk k es (set used i true) (record { node = v; by = edge i }) (top ∷ stack) out
-      | spent ↦ elim stack [ [] ↦ top ∷ out | below ∷ rest ↦ walk k es used below rest (top ∷ out) ]
-    ]
-
--- each edge is gone along once, and each entry taken off once
-unfoldable pub circuit : List Edge → ℕ → List Entry
-unfolding walk
-circuit es s = walk (2 * length es + 1) es (replicate (length es) false) (record { node = s; by = start }) [] []
+-- r nodes of a line, which is that of whatever graph the arrays hold
+pub record Walk (width height : ℕ) (inner : Bool) (xs ys : List ℕ) (n : ℕ) (ends nexts heads : List ℕ) (m r : ℕ) (line : List ℕ) : Type 0 where
+  pub is : (s : Settings) (ns : List Point) (es : List Edge) → Given s ns es width height inner xs ys n ends nexts heads m → take r line ≡ hierholzer s ns es
+  pub nodes : Nodes lineRoom line r
+  pub long : length line ≡ lineRoom

@@ -1,0 +1,6 @@
+-- Laws of the definitions in specs/.
+pub mod Accepted
+pub mod Back
+pub mod Members
+pub mod OnGrid
+pub mod Same

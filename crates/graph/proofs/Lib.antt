@@ -1,0 +1,4 @@
+-- Laws of the definitions in specs/.
+pub mod Arrays
+pub mod Sound
+pub mod Whole

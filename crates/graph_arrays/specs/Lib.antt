@@ -1,0 +1,5 @@
+-- The graph that flat arrays hold, read of them.
+pub mod Tabulate
+pub mod Read
+
+-- Whoever filled the arrays from a graph reads that graph:

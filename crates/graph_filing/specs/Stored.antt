@@ -1,0 +1,68 @@
+-- The ends of links filed by segment in flat lists, with their distances and places. Assumes nothing.
+use mathlib.Core.List.{List}
+use Prim.Native.Nat.{ℕ, zero, suc, _+_, _-_, _*_, _<_}
+use lib.ListN.{getD, set}
+use Rattle.drawing_spec.specs.Drawing.{Point}
+use Rattle.graph_spec.specs.Chain.{squared}
+use Rattle.graph_segment_ends.specs.Ends.{Filed, filed, fileEnd}
+use Rattle.file_records.specs.declared.Point as records
+use Rattle.file_records.specs.declared.MstEdge.{MstEdge}
+use Rattle.file.specs.Held.{pastEnd}
+use Rattle.file.specs.Back.{pointBack}
+use Rattle.graph_chain.specs.Along.{Low}
+use Rattle.graph_line.specs.Lines.{Points, pointIn}
+use Rattle.graph_filing.specs.Floats.{OnFloat}
+
+-- the newest end of each segment; of each end the next older one, its distance from the start of its segment, and its place
+pub record Store : Type 0 where
+  pub newest : List ℕ
+  pub next : List ℕ
+  pub keys : List ℕ
+  pub xs : List ℕ
+  pub ys : List ℕ
+
+abbrev pub store : List ℕ → List ℕ → List ℕ → List ℕ → List ℕ → Store
+store hs ns ks xs ys = record { newest = hs; next = ns; keys = ks; xs = xs; ys = ys }
+
+abbrev pub withFiled : Filed → List ℕ → List ℕ → List ℕ → Store
+withFiled t ks xs ys = store (t .heads) (t .next) ks xs ys
+
+-- with the end e at p, of the segment g
+unfoldable pub storeEnd : Points → ℕ → ℕ → Point → Store → Store
+storeEnd ps e g p t = withFiled (fileEnd e g (filed (t .newest) (t .next))) (set (t .keys) e (squared (pointIn ps g) p)) (set (t .xs) e (p .x)) (set (t .ys) e (p .y))
+
+-- the place of a segment's start among the points
+abbrev pub placeIn : List ℕ → ℕ → ℕ → ℕ
+placeIn starts line segment = getD starts line 0 + segment
+
+-- both ends of link i
+unfoldable pub storeLink : List ℕ → Points → ℕ → MstEdge → Store → Store
+storeLink starts ps i m t =
+    storeEnd ps (2 * i + 1) (placeIn starts (m .«poly_b») (m .«seg_b»)) (pointBack (m .«point_b»))
+    (storeEnd ps (2 * i) (placeIn starts (m .«poly_a») (m .«seg_a»)) (pointBack (m .«point_a»)) t)
+
+-- n links, from link i on
+unfoldable pub storeLinks : List ℕ → Points → List MstEdge → ℕ → ℕ → Store → Store
+storeLinks starts ps ms zero i t = t
+storeLinks starts ps ms (suc n) i t = storeLinks starts ps ms n (i + 1) (storeLink starts ps i (getD ms i pastEnd) t)
+
+-- ---- what the code needs of the lists
+
+-- every point has a place that lengths can be made of
+pub record LowPoints (ps : Points) : Type 0 where
+  pub low : (g : ℕ) → Low (pointIn ps g)
+
+pub record EndFits (starts : List ℕ) (line segment : ℕ) : Type 0 where
+  pub line-low : line < 257
+  pub place-low : placeIn starts line segment < 1024
+
+pub record LinkFits (starts : List ℕ) (m : MstEdge) : Type 0 where
+  pub first : EndFits starts (m .«poly_a») (m .«seg_a»)
+  pub second : EndFits starts (m .«poly_b») (m .«seg_b»)
+  pub first-x : OnFloat (m .«point_a» .x)
+  pub first-y : OnFloat (m .«point_a» .y)
+  pub second-x : OnFloat (m .«point_b» .x)
+  pub second-y : OnFloat (m .«point_b» .y)
+
+pub record LinksFit (starts : List ℕ) (ms : List MstEdge) (n : ℕ) : Type 0 where
+  pub each : (i : ℕ) → i < n → LinkFits starts (getD ms i pastEnd)

@@ -1,0 +1,40 @@
+// The drawing's links, which it holds in an array, lent to `file_lent` as a slice. Its parameters hold no reference to a
+// struct, so whoever calls it needs no proof by hand.
+ghost use mathlib.Core.Path.{_≡_};
+ghost use Prim.Native.Nat.{_≤_};
+ghost use Rattle.graph_line.specs.Lines.{points};
+ghost use Rattle.graph_filing.specs.Stored.{store, storeLinks, LowPoints, LinksFit};
+use file_records::MstEdge;
+use limits::MOST_LINES;
+use limits::MOST_LINKS;
+use limits::MOST_POINTS;
+use limits::MOST_SPLITS;
+
+// Files the ends of the first links of an array, in their order.
+pub fn file_held(
+    newest: &mut [u16; MOST_POINTS],
+    next: &mut [u16; MOST_SPLITS],
+    dists: &mut [u64; MOST_SPLITS],
+    pxs: &mut [u32; MOST_SPLITS],
+    pys: &mut [u32; MOST_SPLITS],
+    starts: &[u16; MOST_LINES + 1],
+    lx: &[u32; MOST_POINTS],
+    ly: &[u32; MOST_POINTS],
+    links: [MstEdge; MOST_LINKS],
+    count: usize,
+)
+    requires { ⌜ (count ≤ 255) × LinksFit (now starts) links count × LowPoints (points (now lx) (now ly)) ⌝ }
+    ensures { λ _. ⌜ store (now (newest .exit)) (now (next .exit)) (now (dists .exit)) (now (pxs .exit)) (now (pys .exit)) ≡ storeLinks (now (starts .entry)) (points (now (lx .entry)) (now (ly .entry))) links count 0 (store (now (newest .entry)) (now (next .entry)) (now (dists .entry)) (now (pxs .entry)) (now (pys .entry))) ⌝ }
+{
+    graph_filing_lent::file_lent(
+        newest,
+        next,
+        dists,
+        pxs,
+        pys,
+        starts,
+        lx,
+        ly,
+        &links[..count],
+    );
+}

@@ -1,0 +1,34 @@
+// The ends of links that are lent as a slice of structs. The borrow checker covers no function that has such a slice: this
+// one takes each link out by value and hands it to a covered function, and is proved by hand.
+ghost use mathlib.Core.Path.{_≡_};
+ghost use Prim.Native.Nat.{_≤_};
+ghost use lib.ListN.{length};
+ghost use Rattle.graph_line.specs.Lines.{points};
+ghost use Rattle.graph_filing.specs.Stored.{store, storeLinks, LowPoints, LinksFit};
+use file_records::MstEdge;
+use limits::MOST_LINES;
+use limits::MOST_POINTS;
+use limits::MOST_SPLITS;
+
+// Files the ends of all links, in their order.
+pub fn file_lent(
+    newest: &mut [u16; MOST_POINTS],
+    next: &mut [u16; MOST_SPLITS],
+    dists: &mut [u64; MOST_SPLITS],
+    pxs: &mut [u32; MOST_SPLITS],
+    pys: &mut [u32; MOST_SPLITS],
+    starts: &[u16; MOST_LINES + 1],
+    lx: &[u32; MOST_POINTS],
+    ly: &[u32; MOST_POINTS],
+    links: &[MstEdge],
+)
+    requires { ⌜ (length (now links) ≤ 255) × LinksFit (now starts) (now links) (length (now links)) × LowPoints (points (now lx) (now ly)) ⌝ }
+    ensures { λ _. ⌜ store (now (newest .exit)) (now (next .exit)) (now (dists .exit)) (now (pxs .exit)) (now (pys .exit)) ≡ storeLinks (now (starts .entry)) (points (now (lx .entry)) (now (ly .entry))) (now (links .entry)) (length (now (links .entry))) 0 (store (now (newest .entry)) (now (next .entry)) (now (dists .entry)) (now (pxs .entry)) (now (pys .entry))) ⌝ }
+{
+    let mut i = 0;
+    while i < links.len() {
+        let link = links[i];
+        graph_filing::file_link(newest, next, dists, pxs, pys, starts, lx, ly, i, link);
+        i += 1;
+    }
+}

@@ -1,0 +1,60 @@
+-- The moves of lines whose points stand in flat lists, a segment after the other. Assumes nothing.
+use mathlib.Core.Bool.{true, false}
+use mathlib.Core.List.{List, [], _∷_}
+use Prim.Native.Nat.{ℕ, _+_, _-_, _<_}
+use lib.ListN.{getD}
+use lib.Dec.{ltb}
+use Rattle.drawing_spec.specs.Drawing.{Point}
+use Rattle.graph_splits.specs.Next.{at}
+use Rattle.graph_segment_ends.specs.Gather.{Keyed}
+use Rattle.file.specs.Back.{pointsBack}
+use Rattle.graph_moves.specs.Moves.{Move, start, lineMoves}
+use Rattle.graph_strokes.specs.Step.{Traced}
+use Rattle.graph_chain.specs.Along.{Traceable}
+use Rattle.graph_line.specs.Follow.{chainFrom, Distances}
+
+-- the ends of links, filed by segment: of each its distance and its place, the next older one, and the newest of each segment
+pub record Filing : Type 0 where
+  pub keyed : Keyed
+  pub next : List ℕ
+  pub newest : List ℕ
+
+abbrev pub filing : Keyed → List ℕ → List ℕ → Filing
+filing k ns hs = record { keyed = k; next = ns; newest = hs }
+
+-- the chain of the segment at place g
+abbrev pub chainsOf : Filing → ℕ → Point → Point → List Point
+chainsOf f g a b = chainFrom (f .keyed) (f .next) (getD (f .newest) g 0) a b
+
+-- the points of all lines, by their places
+pub record Points : Type 0 where
+  pub xs : List ℕ
+  pub ys : List ℕ
+
+abbrev pub points : List ℕ → List ℕ → Points
+points xs ys = record { xs = xs; ys = ys }
+
+abbrev pub pointIn : Points → ℕ → Point
+pointIn ps g = at (getD (ps .xs) g 0) (getD (ps .ys) g 0)
+
+-- each end has its distance from the start of its segment
+pub record AllDistances (f : Filing) (ps : Points) : Type 0 where
+  pub from : (g : ℕ) → g < 1024 → Distances (pointIn ps g) (f .keyed) (f .next) (getD (f .newest) g 0)
+
+-- the moves of a line from its point g on, whose points end before `stop`
+abbrev pub segmentsFrom : Filing → Points → ℕ → ℕ → List Move
+segmentsFrom f ps stop g = lineMoves (chainsOf f) g (pointIn ps g) (pointsBack (stop - (g + 1)) (g + 1) (ps .xs) (ps .ys))
+
+-- of the whole line from the place `first`; an empty line has none
+unfoldable pub lineIn : Filing → Points → ℕ → ℕ → List Move
+lineIn f ps first stop = elim (ltb first stop) [ true ↦ start (pointIn ps first) ∷ segmentsFrom f ps stop first | false ↦ [] ]
+
+-- ---- moves that begin anew, wherever the walk is
+
+abbrev pub origin : Point
+origin = at 0 0
+
+-- wherever the walk is, the moves can be traced
+pub record Ready (ms : List Move) (s : Traced) : Type 0 where
+  pub place : Point
+  pub traceable : Traceable place ms s

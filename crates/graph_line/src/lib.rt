@@ -1,0 +1,150 @@
+// Lines traced, segment by segment.
+ghost use mathlib.Core.Path.{_≡_};
+ghost use Prim.Native.Nat.{_≤_};
+ghost use Rattle.graph_adjacency.specs.Lists.{adjacency};
+ghost use Rattle.graph_nodes.specs.Table.{table};
+ghost use Rattle.graph_splits.specs.Next.{at};
+ghost use Rattle.graph_segment_ends.specs.Gather.{keyed};
+ghost use Rattle.graph_moves.specs.Moves.{drawAll};
+ghost use Rattle.graph_strokes.specs.Step.{traced};
+ghost use Rattle.graph_chain.specs.Along.{tracedAlong, Traceable};
+ghost use Rattle.graph_line.specs.Follow.{chainFrom, Scratch, Distances};
+ghost use Rattle.graph_line.specs.Lines.{filing, points, AllDistances, lineIn, origin, Ready};
+use graph_nodes::BUCKETS;
+use graph_splits::ROOM;
+use graph_strokes::Trail;
+use limits::EDGE_ROOM;
+use limits::MOST_NODES;
+use limits::MOST_POINTS;
+use limits::MOST_SPLITS;
+
+// The segment from a to b, whose newest end is `first`: its split points are gathered into `keys`, `sx`
+// and `sy`, and its chain is traced.
+pub fn trace_segment(
+    xs: &mut [u32; MOST_NODES],
+    ys: &mut [u32; MOST_NODES],
+    older: &mut [u16; MOST_NODES],
+    buckets: &mut [u16; BUCKETS],
+    ends: &mut [u16; 2 * EDGE_ROOM],
+    weights: &mut [f64; EDGE_ROOM],
+    next: &mut [u16; 2 * EDGE_ROOM],
+    heads: &mut [u16; 2 * MOST_NODES],
+    keys: &mut [u64; ROOM],
+    sx: &mut [u32; ROOM],
+    sy: &mut [u32; ROOM],
+    dists: &[u64; MOST_SPLITS],
+    pxs: &[u32; MOST_SPLITS],
+    pys: &[u32; MOST_SPLITS],
+    filed: &[u16; MOST_SPLITS],
+    first: usize,
+    from: Trail,
+    ax: u32,
+    ay: u32,
+    bx: u32,
+    by: u32,
+) -> Trail
+    requires scratch { ⌜ Scratch (now keys) (now sx) (now sy) ⌝ }
+    requires distances { ⌜ Distances (at ax ay) (keyed (now dists) (now pxs) (now pys)) (now filed) first ⌝ }
+    requires room { ⌜ Traceable (at ax ay) (drawAll (chainFrom (keyed (now dists) (now pxs) (now pys)) (now filed) first (at ax ay) (at bx by))) (traced (table (now xs) (now ys) (now older) (now buckets)) (adjacency (now ends) (now weights) (now next) (now heads)) (from .nodes) (from .edges) (from .node)) ⌝ }
+    ensures graph { λ r. ⌜ traced (table (now (xs .exit)) (now (ys .exit)) (now (older .exit)) (now (buckets .exit))) (adjacency (now (ends .exit)) (now (weights .exit)) (now (next .exit)) (now (heads .exit))) (r .nodes) (r .edges) (r .node) ≡ tracedAlong (at ax ay) (drawAll (chainFrom (keyed (now (dists .entry)) (now (pxs .entry)) (now (pys .entry))) (now (filed .entry)) first (at ax ay) (at bx by))) (traced (table (now (xs .entry)) (now (ys .entry)) (now (older .entry)) (now (buckets .entry))) (adjacency (now (ends .entry)) (now (weights .entry)) (now (next .entry)) (now (heads .entry))) (from .nodes) (from .edges) (from .node)) ⌝ }
+    ensures scratch { λ _. ⌜ Scratch (now (keys .exit)) (now (sx .exit)) (now (sy .exit)) ⌝ }
+{
+    let count = graph_segment_ends::gather(dists, pxs, pys, filed, first, keys, sx, sy);
+    graph_chain::trace_chain(
+        xs,
+        ys,
+        older,
+        buckets,
+        ends,
+        weights,
+        next,
+        heads,
+        sx,
+        sy,
+        count,
+        from,
+        ax,
+        ay,
+        bx,
+        by,
+    )
+}
+
+fn wide(x: u16) -> usize
+    ensures { λ r. ⌜ r ≡ x ⌝ }
+{
+    x as usize
+}
+
+// One line, whose points are those from `first` to `stop`; an empty one is nothing.
+pub fn trace_line(
+    xs: &mut [u32; MOST_NODES],
+    ys: &mut [u32; MOST_NODES],
+    older: &mut [u16; MOST_NODES],
+    buckets: &mut [u16; BUCKETS],
+    ends: &mut [u16; 2 * EDGE_ROOM],
+    weights: &mut [f64; EDGE_ROOM],
+    next: &mut [u16; 2 * EDGE_ROOM],
+    heads: &mut [u16; 2 * MOST_NODES],
+    keys: &mut [u64; ROOM],
+    sx: &mut [u32; ROOM],
+    sy: &mut [u32; ROOM],
+    dists: &[u64; MOST_SPLITS],
+    pxs: &[u32; MOST_SPLITS],
+    pys: &[u32; MOST_SPLITS],
+    filed: &[u16; MOST_SPLITS],
+    newest: &[u16; MOST_POINTS],
+    lx: &[u32; MOST_POINTS],
+    ly: &[u32; MOST_POINTS],
+    first: usize,
+    stop: usize,
+    from: Trail,
+) -> Trail
+    requires inside { ⌜ stop ≤ 1024 ⌝ }
+    requires scratch { ⌜ Scratch (now keys) (now sx) (now sy) ⌝ }
+    requires distances { ⌜ AllDistances (filing (keyed (now dists) (now pxs) (now pys)) (now filed) (now newest)) (points (now lx) (now ly)) ⌝ }
+    requires room { ⌜ Ready (lineIn (filing (keyed (now dists) (now pxs) (now pys)) (now filed) (now newest)) (points (now lx) (now ly)) first stop) (traced (table (now xs) (now ys) (now older) (now buckets)) (adjacency (now ends) (now weights) (now next) (now heads)) (from .nodes) (from .edges) (from .node)) ⌝ }
+    ensures graph { λ r. ⌜ traced (table (now (xs .exit)) (now (ys .exit)) (now (older .exit)) (now (buckets .exit))) (adjacency (now (ends .exit)) (now (weights .exit)) (now (next .exit)) (now (heads .exit))) (r .nodes) (r .edges) (r .node) ≡ tracedAlong origin (lineIn (filing (keyed (now (dists .entry)) (now (pxs .entry)) (now (pys .entry))) (now (filed .entry)) (now (newest .entry))) (points (now (lx .entry)) (now (ly .entry))) first stop) (traced (table (now (xs .entry)) (now (ys .entry)) (now (older .entry)) (now (buckets .entry))) (adjacency (now (ends .entry)) (now (weights .entry)) (now (next .entry)) (now (heads .entry))) (from .nodes) (from .edges) (from .node)) ⌝ }
+    ensures scratch { λ _. ⌜ Scratch (now (keys .exit)) (now (sx .exit)) (now (sy .exit)) ⌝ }
+{
+    if stop <= first {
+        return from;
+    }
+    let last = stop - 1;
+    let qx = lx[first];
+    let qy = ly[first];
+    let mut t = graph_strokes::begin(xs, ys, older, buckets, from.nodes, from.edges, qx, qy);
+    let mut g = first;
+    while g < last {
+        let e = wide(newest[g]);
+        let ax = lx[g];
+        let ay = ly[g];
+        let bx = lx[g + 1];
+        let by = ly[g + 1];
+        t = trace_segment(
+            xs,
+            ys,
+            older,
+            buckets,
+            ends,
+            weights,
+            next,
+            heads,
+            keys,
+            sx,
+            sy,
+            dists,
+            pxs,
+            pys,
+            filed,
+            e,
+            t,
+            ax,
+            ay,
+            bx,
+            by,
+        );
+        g += 1;
+    }
+    t
+}

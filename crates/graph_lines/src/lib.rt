@@ -1,0 +1,141 @@
+// All lines of a drawing traced, and then its links.
+ghost use mathlib.Core.Path.{_≡_};
+ghost use Prim.Native.Nat.{_≤_};
+ghost use Rattle.graph_adjacency.specs.Lists.{adjacency};
+ghost use Rattle.graph_nodes.specs.Table.{table};
+ghost use Rattle.graph_segment_ends.specs.Gather.{keyed};
+ghost use Rattle.graph_strokes.specs.Step.{traced};
+ghost use Rattle.graph_chain.specs.Along.{tracedAlong};
+ghost use Rattle.graph_line.specs.Follow.{Scratch};
+ghost use Rattle.graph_line.specs.Lines.{filing, points, AllDistances, origin, Ready};
+ghost use Rattle.graph_lines.specs.All.{linesIn, linksIn, StartsInside};
+use graph_nodes::BUCKETS;
+use graph_splits::ROOM;
+use graph_strokes::Trail;
+use limits::EDGE_ROOM;
+use limits::MOST_LINES;
+use limits::MOST_NODES;
+use limits::MOST_POINTS;
+use limits::MOST_SPLITS;
+
+fn wide(x: u16) -> usize
+    ensures { λ r. ⌜ r ≡ x ⌝ }
+{
+    x as usize
+}
+
+// All lines, in their order: line i's points are those from starts[i] to starts[i + 1].
+pub fn trace_lines(
+    xs: &mut [u32; MOST_NODES],
+    ys: &mut [u32; MOST_NODES],
+    older: &mut [u16; MOST_NODES],
+    buckets: &mut [u16; BUCKETS],
+    ends: &mut [u16; 2 * EDGE_ROOM],
+    weights: &mut [f64; EDGE_ROOM],
+    next: &mut [u16; 2 * EDGE_ROOM],
+    heads: &mut [u16; 2 * MOST_NODES],
+    keys: &mut [u64; ROOM],
+    sx: &mut [u32; ROOM],
+    sy: &mut [u32; ROOM],
+    dists: &[u64; MOST_SPLITS],
+    pxs: &[u32; MOST_SPLITS],
+    pys: &[u32; MOST_SPLITS],
+    filed: &[u16; MOST_SPLITS],
+    newest: &[u16; MOST_POINTS],
+    lx: &[u32; MOST_POINTS],
+    ly: &[u32; MOST_POINTS],
+    starts: &[u16; MOST_LINES + 1],
+    lines: usize,
+    from: Trail,
+) -> Trail
+    requires few { ⌜ lines ≤ 256 ⌝ }
+    requires inside { ⌜ StartsInside (now starts) ⌝ }
+    requires scratch { ⌜ Scratch (now keys) (now sx) (now sy) ⌝ }
+    requires distances { ⌜ AllDistances (filing (keyed (now dists) (now pxs) (now pys)) (now filed) (now newest)) (points (now lx) (now ly)) ⌝ }
+    requires room { ⌜ Ready (linesIn (filing (keyed (now dists) (now pxs) (now pys)) (now filed) (now newest)) (points (now lx) (now ly)) (now starts) lines 0) (traced (table (now xs) (now ys) (now older) (now buckets)) (adjacency (now ends) (now weights) (now next) (now heads)) (from .nodes) (from .edges) (from .node)) ⌝ }
+    ensures { λ r. ⌜ traced (table (now (xs .exit)) (now (ys .exit)) (now (older .exit)) (now (buckets .exit))) (adjacency (now (ends .exit)) (now (weights .exit)) (now (next .exit)) (now (heads .exit))) (r .nodes) (r .edges) (r .node) ≡ tracedAlong origin (linesIn (filing (keyed (now (dists .entry)) (now (pxs .entry)) (now (pys .entry))) (now (filed .entry)) (now (newest .entry))) (points (now (lx .entry)) (now (ly .entry))) (now (starts .entry)) lines 0) (traced (table (now (xs .entry)) (now (ys .entry)) (now (older .entry)) (now (buckets .entry))) (adjacency (now (ends .entry)) (now (weights .entry)) (now (next .entry)) (now (heads .entry))) (from .nodes) (from .edges) (from .node)) ⌝ }
+{
+    let mut t = from;
+    let mut i = 0;
+    while i < lines {
+        let first = wide(starts[i]);
+        let stop = wide(starts[i + 1]);
+        t = graph_line::trace_line(
+            xs,
+            ys,
+            older,
+            buckets,
+            ends,
+            weights,
+            next,
+            heads,
+            keys,
+            sx,
+            sy,
+            dists,
+            pxs,
+            pys,
+            filed,
+            newest,
+            lx,
+            ly,
+            first,
+            stop,
+            t,
+        );
+        i += 1;
+    }
+    t
+}
+
+// All links, in their order: from the first end of each to its second. Link k has the ends 2 k and 2 k + 1.
+pub fn trace_links(
+    xs: &mut [u32; MOST_NODES],
+    ys: &mut [u32; MOST_NODES],
+    older: &mut [u16; MOST_NODES],
+    buckets: &mut [u16; BUCKETS],
+    ends: &mut [u16; 2 * EDGE_ROOM],
+    weights: &mut [f64; EDGE_ROOM],
+    next: &mut [u16; 2 * EDGE_ROOM],
+    heads: &mut [u16; 2 * MOST_NODES],
+    dists: &[u64; MOST_SPLITS],
+    pxs: &[u32; MOST_SPLITS],
+    pys: &[u32; MOST_SPLITS],
+    links: usize,
+    from: Trail,
+) -> Trail
+    requires few { ⌜ links ≤ 255 ⌝ }
+    requires room { ⌜ Ready (linksIn (keyed (now dists) (now pxs) (now pys)) links 0) (traced (table (now xs) (now ys) (now older) (now buckets)) (adjacency (now ends) (now weights) (now next) (now heads)) (from .nodes) (from .edges) (from .node)) ⌝ }
+    ensures { λ r. ⌜ traced (table (now (xs .exit)) (now (ys .exit)) (now (older .exit)) (now (buckets .exit))) (adjacency (now (ends .exit)) (now (weights .exit)) (now (next .exit)) (now (heads .exit))) (r .nodes) (r .edges) (r .node) ≡ tracedAlong origin (linksIn (keyed (now (dists .entry)) (now (pxs .entry)) (now (pys .entry))) links 0) (traced (table (now (xs .entry)) (now (ys .entry)) (now (older .entry)) (now (buckets .entry))) (adjacency (now (ends .entry)) (now (weights .entry)) (now (next .entry)) (now (heads .entry))) (from .nodes) (from .edges) (from .node)) ⌝ }
+{
+    let mut t = from;
+    let mut k = 0;
+    while k < links {
+        let a = 2 * k;
+        let b = a + 1;
+        let px = pxs[a];
+        let py = pys[a];
+        let qx = pxs[b];
+        let qy = pys[b];
+        let v = graph_strokes::begin(xs, ys, older, buckets, t.nodes, t.edges, px, py);
+        t = graph_strokes::step(
+            xs,
+            ys,
+            older,
+            buckets,
+            ends,
+            weights,
+            next,
+            heads,
+            v.nodes,
+            v.edges,
+            v.node,
+            px,
+            py,
+            qx,
+            qy,
+        );
+        k += 1;
+    }
+    t
+}

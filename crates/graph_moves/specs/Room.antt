@@ -1,0 +1,8 @@
+-- A graph that has room for its nodes and edges had room at every move before. Assumes nothing.
+use Prim.Native.Nat.{_≤_}
+use lib.ListN.{length}
+use Rattle.graph_spec.specs.Graph.{Graph}
+
+-- at most 1,534 nodes and 4,000 edges
+abbrev pub Room : Graph → Type 0
+Room g = (length (g .nodes) ≤ 1534) × (length (g .edges) ≤ 4000)

@@ -1,0 +1,29 @@
+-- `nodes::hash` meets its contract. Assumes nothing.
+use Prim.Native.Nat.{ℕ, _+_, _*_, _%_}
+use native.Mathlib.Nat.{mod-lt}
+use mathlib.Core.Path.{ap, _∙_}
+use lib.Dec.{lit<}
+use Rattle.graph_nodes.specs.Table.{hashOf}
+use borrow.Author.Needs.{needs}
+use Rattle.graph_nodes.proofs.hash.Statement.{statement}
+use Rattle.graph_nodes.proofs.hash.Tie as tie
+
+widened-requires : tie.Need-widened-requires
+widened-requires c κs = search needs
+
+widened-requires-2 : tie.Need-widened-requires-2
+widened-requires-2 c κs = search needs
+
+mul-result : tie.Need-mul-result
+mul-result c = search needs
+
+add-result : tie.Need-add-result
+add-result c = search needs
+
+returns : tie.Need-returns
+unfolding hashOf
+returns c =
+    (ap (λ (k : ℕ). (1009 * k + c .widened2 .result) % 2039) (c .before .widened .ensures .0) ∙ ap (λ (k : ℕ). (1009 * c .before .before .args .x + k) % 2039) (c .widened2 .ensures .0), mod-lt _ (lit< tt))
+
+pub hash-spec : {M : Type 1} → statement M
+hash-spec = tie.close (tie.spec widened-requires widened-requires-2 mul-result add-result returns)

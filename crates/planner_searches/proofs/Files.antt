@@ -1,0 +1,41 @@
+-- For every file that passes checks 1 to 8: its graph can be searched with an early exit, before and after each retrace, and where its drawing is in one piece (check 9)
+-- condition 12 never holds.
+use mathlib.Core.Path.{_≡_, refl}
+use mathlib.Core.List.{List}
+use mathlib.Core.Bool.{true, false}
+use Prim.Native.Nat.{ℕ}
+use lib.ListN.{length}
+use Rattle.drawing_spec.specs.Read.{recordsOf}
+use Rattle.drawing_spec.proofs.OnGrid.{lines-on, links-on}
+use Rattle.drawing_spec.proofs.Accepted.{Fits, counts-fit}
+use Rattle.graph_spec.specs.Reach.{allReached}
+use Rattle.repair_spec.specs.Retrace.{shortestPath}
+use Rattle.repair_spec.specs.Repair.{Repairing, stopped, repaired}
+use Rattle.planner_spec.specs.Plan.{drawingIn, graphIn, repairIn, stoppedBy}
+use Rattle.repair_early_exit.specs.EarlyExit.{Searchable}
+use Rattle.repair_early_exit.proofs.Drawn.{drawn-searchable}
+use Rattle.repair_early_exit.proofs.FewNodes.{nodes-few}
+use Rattle.repair_early_exit.proofs.Never.{Sound, reached-one-piece, repair-sound}
+use Rattle.repair_early_exit.proofs.ShortSearch.{pathTo, same-path}
+
+module _ (file : List ℕ) (fits : Fits file) where
+  pub graph-searchable : Searchable (length (graphIn file .nodes)) (graphIn file .edges)
+  unfolding graphIn drawingIn
+  graph-searchable = drawn-searchable (drawingIn file) (lines-on (recordsOf file)) (links-on (recordsOf file)) (nodes-few (drawingIn file) (counts-fit (drawingIn file) (fits .counts)))
+
+  pub graph-path : (s t : ℕ) → pathTo (length (graphIn file .nodes)) (graphIn file .edges) s t ≡ shortestPath (length (graphIn file .nodes)) (graphIn file .edges) s t
+  graph-path = same-path (length (graphIn file .nodes)) (graphIn file .edges) graph-searchable
+
+  -- where every node is reached, repair stops with 13 or not at all
+  module _ (reached : allReached (length (graphIn file .nodes)) (graphIn file .edges) ≡ true) where
+    pub repair-in-sound : Sound (length (graphIn file .nodes)) (repairIn file)
+    unfolding repairIn
+    repair-in-sound =
+        repair-sound (graphIn file) (drawingIn file .settings) graph-searchable (reached-one-piece (length (graphIn file .nodes)) (graphIn file .edges) reached)
+
+    pub never-stops-12 : stoppedBy 12 (repairIn file) ≡ false
+    never-stops-12 = go (repairIn file) repair-in-sound
+      where
+        go : (x : Repairing) → Sound (length (graphIn file .nodes)) x → stoppedBy 12 x ≡ false
+        go (stopped k) h = rw h
+        go (repaired r) h = refl

@@ -1,0 +1,52 @@
+-- `greedy::look_at_least` meets its contract. Assumes nothing.
+use Prim.Native.Nat.{_+_, _<_}
+use native.Mathlib.Omega.{arith}
+use Rattle.repair_greedy.specs.Points.{pointAt}
+use Rattle.repair_greedy.proofs.Rows.{row-reaches}
+use Rattle.repair_greedy.proofs.Bounds.{row-bounds, row-small}
+use borrow.Author.Needs.{needs}
+use Rattle.repair_greedy.proofs.look_at_least.Statement.{statement}
+use Rattle.repair_greedy.proofs.look_at_least.Tie as tie
+
+least-row-requires : tie.Need-least-row-requires
+least-row-requires c κs = search needs
+
+mul-before : tie.Need-mul-before
+mul-before c = search needs
+
+element-copy-out-before : tie.Need-element-copy-out-before
+element-copy-out-before c = search needs
+
+scan-row-requires : tie.Need-scan-row-requires
+scan-row-requires c κs = search needs
+
+mul-lows : tie.Need-mul-lows
+mul-lows c = search needs
+
+element-write-lows : tie.Need-element-write-lows
+element-write-lows c = search needs
+
+returns : tie.Need-returns
+returns c =
+    let s = c .before .before .before .before .before in
+    let f = pointAt (s .args .xs .now) (s .args .ys .now) in
+    let w = s .args .working .now in
+    let i = c .before .before .before .least-row .result in
+    let low : i + 1 < s .args .n = c .before .before .before .least-row .ensures in
+    let is = c .before .scan-row .ensures in (
+      row-reaches f w (s .args .n) (s .pre .3 .long) i _ _ _ (omega arith) is,
+      row-small (s .args .xs .now) (s .args .ys .now) w (s .args .n) i _ _ _ (s .pre .3 .long) (s .pre .2) low is,
+      row-bounds f w (s .args .n) (s .pre .3 .long) (s .args .lows .now) i _ _ _ (s .pre .4) is,
+    )
+
+pub look-at-least-spec : {M : Type 1} → statement M
+look-at-least-spec =
+    tie.close
+    (tie.spec
+    least-row-requires
+    mul-before
+    element-copy-out-before
+    scan-row-requires
+    mul-lows
+    element-write-lows
+    returns)

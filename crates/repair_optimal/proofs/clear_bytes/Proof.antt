@@ -1,0 +1,52 @@
+-- `optimal::clear_bytes` meets its contract. The loop's invariant: k zeros, then what was there. Assumes nothing.
+use native.Mathlib.Omega.{arith}
+use Prim.Native.Nat.{_≤_, _-_}
+use mathlib.Core.Path.{_≡_, refl}
+use Rattle.repair_optimal.proofs.Turns.{clear-turn, clear-over}
+use mathlib.Core.List.{_++_}
+use lib.ListN.{length, replicate, drop, length-set}
+use borrow.Author.Needs.{needs}
+use Rattle.repair_optimal.proofs.clear_bytes.Statement.{statement}
+use Rattle.repair_optimal.proofs.clear_bytes.Tie as tie
+
+abbrev Inv-loop : tie.InvT-loop
+Inv-loop partners₀ k₀ partners k =
+    (k ≤ length partners₀) × (length partners ≡ length partners₀) × (partners ≡ replicate k 0 ++ drop k partners₀)
+
+abbrev μ-loop : tie.MeasureT-loop
+μ-loop partners₀ k₀ partners k = length partners₀ - k
+
+loop-holds : tie.Need-loop-holds Inv-loop μ-loop
+loop-holds c = (omega arith, refl, refl)
+
+slice-write-partners : tie.Need-slice-write-partners Inv-loop μ-loop
+slice-write-partners c = search needs
+
+add-k : tie.Need-add-k Inv-loop μ-loop
+add-k c = search needs
+
+loop-less : tie.Need-loop-less Inv-loop μ-loop
+loop-less c = search needs
+
+loop-again : tie.Need-loop-again Inv-loop μ-loop
+loop-again c = (omega arith, simp length-set (c .before .loop .inv .1), clear-turn 0 _ _ _ (omega arith) (c .before .loop .inv .2))
+
+same-length : tie.Need-same-length Inv-loop μ-loop
+same-length c = search needs
+
+returns : tie.Need-returns Inv-loop μ-loop
+returns c = clear-over 0 (c .before .loop .k) (c .before .before .args .partners .now) _ (omega arith) (c .before .loop .inv .2)
+
+pub clear-bytes-spec : {M : Type 1} → statement M
+clear-bytes-spec =
+    tie.close
+    (tie.spec
+    Inv-loop
+    μ-loop
+    loop-holds
+    slice-write-partners
+    add-k
+    loop-less
+    loop-again
+    same-length
+    returns)

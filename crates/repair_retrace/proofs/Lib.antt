@@ -1,0 +1,4 @@
+-- Laws of the definitions in specs/.
+pub mod Answer
+pub mod Apply
+pub mod Matching

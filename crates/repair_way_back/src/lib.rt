@@ -1,0 +1,98 @@
+// The way back from a node to the start of a search, by the distances that the search found, in the edges
+// of a graph in flat arrays (crates/adjacency).
+ghost use mathlib.Core.Path.{_≡_};
+ghost use Prim.Native.Nat.{_-_, _<_, _≤_};
+ghost use lib.ListN.{length, getD};
+ghost use Rattle.graph_adjacency.specs.Lists.{adjacency, edgeNumber};
+ghost use Rattle.repair_search.specs.Search.{IsGraph};
+ghost use Rattle.repair_spec.specs.Retrace.{onWayBack};
+ghost use Rattle.repair_way_back.specs.Back.{fitting, IsWayBack};
+ghost use Rattle.repair_way_back.specs.Answer.{wayIn};
+use limits::EDGE_ROOM;
+use limits::MOST_NODES;
+
+fn wide(x: u16) -> usize
+    ensures { λ r. ⌜ r ≡ x ⌝ }
+{
+    x as usize
+}
+
+// Whether a neighbour at the distance d, by an edge of weight w, is on the way back from a node at the
+// distance c.
+pub fn on_way_back(d: f64, w: f64, c: f64) -> bool
+    ensures { λ r. ⌜ r ≡ onWayBack d w c ⌝ }
+{
+    let x = d + w - c;
+    if x < 0.0 {
+        return -x < 1e-10;
+    }
+    x < 1e-10
+}
+
+// Whether the arc k of the node v leads to a node that is not seen yet and on the way back from v.
+fn fits(
+    ends: &[u16; 2 * EDGE_ROOM],
+    weights: &[f64; EDGE_ROOM],
+    dist: &[f64; MOST_NODES],
+    seen: &[bool; MOST_NODES],
+    v: usize,
+    k: usize,
+) -> bool
+    requires { ⌜ (v < 1534) × (0 < k) × (k ≤ 8002) × (edgeNumber k < 4001) × (getD (now ends) (k - 1) 0 < 1534) ⌝ }
+    ensures { λ r. ⌜ r ≡ fitting (now (ends .entry)) (now (weights .entry)) (now (dist .entry)) (now (seen .entry)) v k ⌝ }
+{
+    let u = wide(ends[k - 1]);
+    if seen[u] {
+        return false;
+    }
+    let e = graph_adjacency::edge_number(k);
+    on_way_back(dist[u], weights[e], dist[v])
+}
+
+// The way to the start.
+pub enum Way {
+    // the place of its first node in `path`, which goes on to the end
+    Found(usize),
+    Missing,
+}
+
+// From the node t back to s, by the distances from s: at each node on to the first neighbour, in the order
+// of its edges, that is not yet on the way and from which the edge makes up the distance. The nodes are
+// written into `path` from its end.
+pub fn way_back(
+    ends: &[u16; 2 * EDGE_ROOM],
+    weights: &[f64; EDGE_ROOM],
+    next: &[u16; 2 * EDGE_ROOM],
+    heads: &[u16; 2 * MOST_NODES],
+    dist: &[f64; MOST_NODES],
+    path: &mut [u16; MOST_NODES],
+    n: usize,
+    s: usize,
+    t: usize,
+) -> Way
+    requires { ⌜ (n ≤ 1534) × (t < n) × (length (now dist) ≡ 1534) × (length (now path) ≡ 1534) × IsGraph n (adjacency (now ends) (now weights) (now next) (now heads)) ⌝ }
+    ensures { λ r. ⌜ IsWayBack n (adjacency (now (ends .entry)) (now (weights .entry)) (now (next .entry)) (now (heads .entry))) (now (dist .entry)) s t (now (path .exit)) (wayIn (now (path .exit)) r) ⌝ }
+{
+    let mut seen = [false; MOST_NODES];
+    let last = MOST_NODES - n;
+    let mut at: usize = MOST_NODES;
+    let mut v = t;
+    'back: while last < at {
+        at -= 1;
+        path[at] = v as u16;
+        if v == s {
+            return Way::Found(at);
+        }
+        seen[v] = true;
+        let mut k = graph_adjacency::first_arc(heads, v);
+        while k != 0 {
+            if fits(ends, weights, dist, &seen, v, k) {
+                v = wide(ends[k - 1]);
+                continue 'back;
+            }
+            k = graph_adjacency::next_arc(next, heads, v, k);
+        }
+        return Way::Missing;
+    }
+    Way::Missing
+}

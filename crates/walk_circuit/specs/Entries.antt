@@ -1,0 +1,26 @@
+-- The walk's entries in two arrays of 4,002: the nodes, and how each was entered. The stack stands at the front, its top last; what was taken off stands at the back, in order.
+use mathlib.Core.List.{List, [], _∷_}
+use Prim.Native.Nat.{ℕ, zero, suc, _-_}
+use lib.ListN.{getD}
+use Rattle.walk_spec.specs.Walk.{By, start, Entry}
+
+-- room for an entry by each edge, and for the first one
+abbrev pub entryRoom : ℕ
+entryRoom = 4002
+
+-- 0 is the start, i + 1 is the edge i
+unfoldable pub byOf : ℕ → By
+byOf zero = start
+byOf (suc i) = By.edge i
+
+abbrev pub entryOf : ℕ → ℕ → Entry
+entryOf v b = record { node = v; by = byOf b }
+
+-- the n entries from the place p on
+unfoldable pub entriesOf : ℕ → ℕ → List ℕ → List ℕ → List Entry
+entriesOf zero p ns bs = []
+entriesOf (suc n) p ns bs = entryOf (getD ns p 0) (getD bs p 0) ∷ entriesOf n (suc p) ns bs
+
+-- the entries from the place p to the end
+abbrev pub entriesFrom : ℕ → List ℕ → List ℕ → List Entry
+entriesFrom p ns bs = entriesOf (entryRoom - p) p ns bs

@@ -1,0 +1,10 @@
+-- Laws of the definitions in specs/.
+pub mod Circuit
+pub mod Cut
+pub mod Free
+pub mod Line
+pub mod Next
+pub mod Oriented
+pub mod Start
+pub mod Traced
+pub mod Trail
