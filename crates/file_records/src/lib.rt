@@ -3,6 +3,7 @@
 ghost use mathlib.Core.Path.{_≡_};
 ghost use Prim.Native.Nat.{_+_, _≤_, _<_};
 ghost use lib.ListN.{length, drop};
+ghost use Rattle.limits.specs.Limits.{mostLines};
 ghost use Rattle.grid.specs.Grid.{readPlace};
 ghost use Rattle.drawing_spec.specs.Bytes.{number};
 ghost use Rattle.drawing_spec.specs.Read.{isCut, placeAt, onGrid, settingsOf, linkOf, point};
@@ -55,7 +56,7 @@ pub struct Record {
 }
 
 fn wide(byte: u8) -> u16
-    ensures { λ r. ⌜ (r ≡ byte) × (r < 256) ⌝ }
+    ensures { λ r. ⌜ (r ≡ byte) × (r < mostLines) ⌝ }
 {
     byte as u16
 }

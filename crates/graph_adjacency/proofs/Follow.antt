@@ -11,8 +11,9 @@ use lib.Dec.{eqb}
 use lib.IntN.{pos}
 use lib.Ieee.{Float, nan, fin}
 use borrow.Author.Tests.{eqb-true, eqb-false}
+use Rattle.limits.specs.Limits.{mostNodes, edgeRoom}
 use Rattle.graph_spec.specs.Graph.{Edge, Arc, newestFirst, edgesAt}
-use Rattle.graph_adjacency.specs.Lists.{Adjacency, noEdges, edgeRoom, nodeRoom, push, pushed, firstArc, nextArc, edgeNumber, arcAt, lists, orElse}
+use Rattle.graph_adjacency.specs.Lists.{Adjacency, noEdges, push, pushed, firstArc, nextArc, edgeNumber, arcAt, lists, orElse}
 use Rattle.graph_adjacency.proofs.Lists.{else-some, else-none, else-below, next-second, next-first, number-second, number-first}
 use Rattle.graph_adjacency.specs.Follow.{AtArc, Ends, Follows}
 
@@ -89,7 +90,7 @@ record Stepped (o h near far i : ℕ) (x : Float) (g g' : Adjacency) (w : ℕ) :
   next-is : getD (g' .next) (i + o) 0 ≡ getD (g .heads) (near + h) 0
 
 module _ (o h : ℕ) (near far : Edge → ℕ) (w : ℕ) (apart : (n i : ℕ) → n < i → i < 4001 → (n + o ≡ i → ⊥) × (n + o ≡ i + edgeRoom → ⊥))
-    (steps : (i : ℕ) (e : Edge) (g : Adjacency) → Sized g → i < 4001 → e .a < nodeRoom → e .b < nodeRoom
+    (steps : (i : ℕ) (e : Edge) (g : Adjacency) → Sized g → i < 4001 → e .a < mostNodes → e .b < mostNodes
     → Stepped o h (near e) (far e) i (e .weight) g (push i (e .a) (e .b) (e .weight) g) w) where
   turn : (i : ℕ) (e : Edge) (g : Adjacency) (found : List Arc) → i < 4001
       → Stepped o h (near e) (far e) i (e .weight) g (push i (e .a) (e .b) (e .weight) g) w
@@ -126,49 +127,49 @@ module _ (o h : ℕ) (near far : Edge → ℕ) (w : ℕ) (apart : (n i : ℕ) �
 
 -- ---- the two ends
 
-by-first : (w : ℕ) → w < nodeRoom → (i : ℕ) (e : Edge) (g : Adjacency) → Sized g → i < 4001 → e .a < nodeRoom → e .b < nodeRoom
+by-first : (w : ℕ) → w < mostNodes → (i : ℕ) (e : Edge) (g : Adjacency) → Sized g → i < 4001 → e .a < mostNodes → e .b < mostNodes
     → Stepped 4001 0 (e .a) (e .b) i (e .weight) g (push i (e .a) (e .b) (e .weight) g) w
 unfolding push
 by-first w hw i e g s f ha hb =
     let ends' = set (g .ends) i (e .a) in
     let next' = set (g .next) (i + edgeRoom) (getD (g .heads) (e .a) 0) in
     let heads' = set (g .heads) (e .a) (i + (edgeRoom + 1)) in
-    let far : w + 0 ≡ e .b + nodeRoom → ⊥ = omega arith in
+    let far : w + 0 ≡ e .b + mostNodes → ⊥ = omega arith in
     let room : e .a < length (g .heads) = omega (arith, s .heads-long) in
     let room-ends : i + edgeRoom < length ends' = simp length-set (omega (arith, s .ends-long)) in
     let room-next : i + edgeRoom < length (g .next) = omega (arith, s .next-long) in
     let room-weights : i < length (g .weights) = omega (arith, s .weights-long) in
     let off : i + edgeRoom ≡ i → ⊥ = omega arith in
     record {
-      head-new = λ is. getD-set-other heads' (e .b + nodeRoom) (w + 0) _ 0 far
+      head-new = λ is. getD-set-other heads' (e .b + mostNodes) (w + 0) _ 0 far
           ∙ ap (λ (q : ℕ). getD heads' q 0) (add-zero w ∙ sym is) ∙ getD-set-same (g .heads) (e .a) _ 0 room ∙ omega arith;
-      head-kept = λ no. getD-set-other heads' (e .b + nodeRoom) (w + 0) _ 0 far
+      head-kept = λ no. getD-set-other heads' (e .b + mostNodes) (w + 0) _ 0 far
           ∙ getD-set-other (g .heads) (e .a) (w + 0) _ 0 (λ z. no (sym z ∙ add-zero w));
       end-is = getD-set-same ends' (i + edgeRoom) (e .b) 0 room-ends;
       weight-is = getD-set-same (g .weights) i (e .weight) nan room-weights;
       next-is = getD-set-other next' i (i + edgeRoom) _ 0 off ∙ getD-set-same (g .next) (i + edgeRoom) _ 0 room-next ∙ ap (λ (q : ℕ). getD (g .heads) q 0) (sym (add-zero (e .a)));
     }
 
-by-second : (w : ℕ) → w < nodeRoom → (i : ℕ) (e : Edge) (g : Adjacency) → Sized g → i < 4001 → e .a < nodeRoom → e .b < nodeRoom
-    → Stepped 0 nodeRoom (e .b) (e .a) i (e .weight) g (push i (e .a) (e .b) (e .weight) g) w
+by-second : (w : ℕ) → w < mostNodes → (i : ℕ) (e : Edge) (g : Adjacency) → Sized g → i < 4001 → e .a < mostNodes → e .b < mostNodes
+    → Stepped 0 mostNodes (e .b) (e .a) i (e .weight) g (push i (e .a) (e .b) (e .weight) g) w
 unfolding push
 by-second w hw i e g s f ha hb =
     let ends' = set (g .ends) i (e .a) in
     let next' = set (g .next) (i + edgeRoom) (getD (g .heads) (e .a) 0) in
     let heads' = set (g .heads) (e .a) (i + (edgeRoom + 1)) in
-    let far : w + nodeRoom ≡ e .a → ⊥ = omega arith in
-    let room : e .b + nodeRoom < length heads' = simp length-set (omega (arith, s .heads-long)) in
+    let far : w + mostNodes ≡ e .a → ⊥ = omega arith in
+    let room : e .b + mostNodes < length heads' = simp length-set (omega (arith, s .heads-long)) in
     let room-ends : i < length (g .ends) = omega (arith, s .ends-long) in
     let room-next : i < length next' = simp length-set (omega (arith, s .next-long)) in
     let room-weights : i < length (g .weights) = omega (arith, s .weights-long) in
     let off : i + 0 ≡ i + edgeRoom → ⊥ = omega arith in
     record {
-      head-new = λ is. ap (λ (q : ℕ). getD (set heads' (e .b + nodeRoom) (i + 1)) (q + nodeRoom) 0) (sym is) ∙ getD-set-same heads' (e .b + nodeRoom) _ 0 room ∙ omega arith;
-      head-kept = λ no. getD-set-other heads' (e .b + nodeRoom) (w + nodeRoom) _ 0 (λ z. no (omega (arith, z)))
-          ∙ getD-set-other (g .heads) (e .a) (w + nodeRoom) _ 0 far;
+      head-new = λ is. ap (λ (q : ℕ). getD (set heads' (e .b + mostNodes) (i + 1)) (q + mostNodes) 0) (sym is) ∙ getD-set-same heads' (e .b + mostNodes) _ 0 room ∙ omega arith;
+      head-kept = λ no. getD-set-other heads' (e .b + mostNodes) (w + mostNodes) _ 0 (λ z. no (omega (arith, z)))
+          ∙ getD-set-other (g .heads) (e .a) (w + mostNodes) _ 0 far;
       end-is = getD-set-other ends' (i + edgeRoom) (i + 0) _ 0 off ∙ ap (λ (q : ℕ). getD ends' q 0) (add-zero i) ∙ getD-set-same (g .ends) i (e .a) 0 room-ends;
       weight-is = getD-set-same (g .weights) i (e .weight) nan room-weights;
-      next-is = ap (λ (q : ℕ). getD (set next' i (getD (g .heads) (e .b + nodeRoom) 0)) q 0) (add-zero i) ∙ getD-set-same next' i _ 0 room-next;
+      next-is = ap (λ (q : ℕ). getD (set next' i (getD (g .heads) (e .b + mostNodes) 0)) q 0) (add-zero i) ∙ getD-set-same next' i _ 0 room-next;
     }
 
 newest-append : (near far : Edge → ℕ) (v i : ℕ) (es : List Edge) (xs ys : List Arc) → newestFirst near far v i es (xs ++ ys) ≡ newestFirst near far v i es xs ++ ys
@@ -217,15 +218,15 @@ module _ (g : Adjacency) (v : ℕ) where
       )
 
   -- the list by first ends, and then the one by second ends
-  both-follow : (m k : ℕ) (rs bs : List Arc) → m ≤ 4001 → Linked 4001 m g k rs → getD (g .heads) (v + nodeRoom) 0 ≤ 4001 → Follows g v (getD (g .heads) (v + nodeRoom) 0) bs
-      → Follows g v (orElse k (getD (g .heads) (v + nodeRoom) 0)) (rs ++ bs)
+  both-follow : (m k : ℕ) (rs bs : List Arc) → m ≤ 4001 → Linked 4001 m g k rs → getD (g .heads) (v + mostNodes) 0 ≤ 4001 → Follows g v (getD (g .heads) (v + mostNodes) 0) bs
+      → Follows g v (orElse k (getD (g .heads) (v + mostNodes) 0)) (rs ++ bs)
   unfolding Linked Follows
   both-follow m k [] bs h l b f = subst (λ (q : ℕ). Follows g v q bs) (sym (else-none k _ l)) f
   both-follow m k (r ∷ rs) bs h l b f =
       let at : k - 1 ≡ r .number + 4001 = omega (arith, l .0) in
       let high : edgeRoom < k = omega (arith, l .0) in
       let is : k - (edgeRoom + 1) ≡ r .number = omega (arith, l .0) in
-      let second = getD (g .heads) (v + nodeRoom) 0 in
+      let second = getD (g .heads) (v + mostNodes) 0 in
       let next = next-first (g .next) (g .heads) v k high ∙ ap (λ (q : ℕ). orElse (getD (g .next) q 0) second) at in
       let bound = linked-bound 4001 (r .number) g _ rs (l .4) in
       let at-arc : AtArc g v k r = record {
@@ -242,16 +243,16 @@ no-edges-sized : Sized noEdges
 no-edges-sized = record { ends-long = length-replicate {A = ℕ} 8002 0; weights-long = length-replicate {A = Float} 4001 (fin false 0 (pos 0)); next-long = length-replicate {A = ℕ} 8002 0; heads-long = length-replicate {A = ℕ} 3068 0 }
 
 -- The list of a node, from its first arc, is its edges in document 01's order.
-pub lists-follow : (es : List Edge) (v : ℕ) → length es ≤ 4001 → Ends es → v < nodeRoom → Follows (lists es) v (firstArc (lists es .heads) v) (edgesAt es v)
+pub lists-follow : (es : List Edge) (v : ℕ) → length es ≤ 4001 → Ends es → v < mostNodes → Follows (lists es) v (firstArc (lists es .heads) v) (edgesAt es v)
 unfolding lists edgesAt firstArc Linked
 lists-follow es v h n hv =
     let g = pushed 0 es noEdges in
     let few : 0 + length es ≤ 4001 = omega arith in
     let none-first : getD (noEdges .heads) (v + 0) 0 ≡ 0 = getD-replicate 3068 (v + 0) 0 0 (omega arith) in
-    let none-second : getD (noEdges .heads) (v + nodeRoom) 0 ≡ 0 = getD-replicate 3068 (v + nodeRoom) 0 0 (omega arith) in
+    let none-second : getD (noEdges .heads) (v + mostNodes) 0 ≡ 0 = getD-replicate 3068 (v + mostNodes) 0 0 (omega arith) in
     let firsts = linked-all 4001 0 (λ (e : Edge). e .a) (λ (e : Edge). e .b) v (λ n i p q. (omega arith, omega arith)) (by-first v hv) 0 es noEdges [] no-edges-sized few n none-first in
-    let seconds = linked-all 0 nodeRoom (λ (e : Edge). e .b) (λ (e : Edge). e .a) v (λ n i p q. (omega arith, omega arith)) (by-second v hv) 0 es noEdges [] no-edges-sized few n none-second in
-    let second = getD (g .heads) (v + nodeRoom) 0 in
+    let seconds = linked-all 0 mostNodes (λ (e : Edge). e .b) (λ (e : Edge). e .a) v (λ n i p q. (omega arith, omega arith)) (by-second v hv) 0 es noEdges [] no-edges-sized few n none-second in
+    let second = getD (g .heads) (v + mostNodes) 0 in
     let arcs = newestFirst (λ (e : Edge). e .b) (λ (e : Edge). e .a) v 0 es [] in
     let bound : second ≤ 0 + length es + 0 = linked-bound 0 (0 + length es) g second arcs seconds in
     let low : second ≤ 4001 = omega arith in

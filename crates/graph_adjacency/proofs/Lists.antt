@@ -6,7 +6,8 @@ use mathlib.Core.Bool.{Bool, true, false}
 use lib.ListN.{getD}
 use lib.Dec.{eqb}
 use borrow.Author.Tests.{le-leb, lt-leb, eq-eqb, ne-eqb}
-use Rattle.graph_adjacency.specs.Lists.{edgeNumber, edgeRoom, firstArc, nextArc, nodeRoom, orElse, pick}
+use Rattle.limits.specs.Limits.{mostNodes, edgeRoom}
+use Rattle.graph_adjacency.specs.Lists.{edgeNumber, firstArc, nextArc, orElse, pick}
 
 -- ---- laws of what is read
 
@@ -27,23 +28,23 @@ pub first-some : (hs : List ℕ) (v : ℕ) → (getD hs v 0 ≡ 0 → ⊥) → f
 unfolding firstArc
 first-some hs v h = else-some _ _ h
 
-pub first-none : (hs : List ℕ) (v : ℕ) → getD hs v 0 ≡ 0 → firstArc hs v ≡ getD hs (v + nodeRoom) 0
+pub first-none : (hs : List ℕ) (v : ℕ) → getD hs v 0 ≡ 0 → firstArc hs v ≡ getD hs (v + mostNodes) 0
 unfolding firstArc
 first-none hs v h = else-none _ _ h
 
 module _ (ns hs : List ℕ) (v k : ℕ) where
   pub next-second : k ≤ edgeRoom → nextArc ns hs v k ≡ getD ns (k - 1) 0
   unfolding nextArc
-  next-second h = ap (λ (t : Bool). pick t (getD ns (k - 1) 0) (orElse (getD ns (k - 1) 0) (getD hs (v + nodeRoom) 0))) (le-leb k edgeRoom h)
+  next-second h = ap (λ (t : Bool). pick t (getD ns (k - 1) 0) (orElse (getD ns (k - 1) 0) (getD hs (v + mostNodes) 0))) (le-leb k edgeRoom h)
 
-  pub next-first : edgeRoom < k → nextArc ns hs v k ≡ orElse (getD ns (k - 1) 0) (getD hs (v + nodeRoom) 0)
+  pub next-first : edgeRoom < k → nextArc ns hs v k ≡ orElse (getD ns (k - 1) 0) (getD hs (v + mostNodes) 0)
   unfolding nextArc
-  next-first h = ap (λ (t : Bool). pick t (getD ns (k - 1) 0) (orElse (getD ns (k - 1) 0) (getD hs (v + nodeRoom) 0))) (lt-leb k edgeRoom h)
+  next-first h = ap (λ (t : Bool). pick t (getD ns (k - 1) 0) (orElse (getD ns (k - 1) 0) (getD hs (v + mostNodes) 0))) (lt-leb k edgeRoom h)
 
   pub next-some : edgeRoom < k → (getD ns (k - 1) 0 ≡ 0 → ⊥) → nextArc ns hs v k ≡ getD ns (k - 1) 0
   next-some h q = next-first h ∙ else-some _ _ q
 
-  pub next-none : edgeRoom < k → getD ns (k - 1) 0 ≡ 0 → nextArc ns hs v k ≡ getD hs (v + nodeRoom) 0
+  pub next-none : edgeRoom < k → getD ns (k - 1) 0 ≡ 0 → nextArc ns hs v k ≡ getD hs (v + mostNodes) 0
   next-none h q = next-first h ∙ else-none _ _ q
 
 pub number-second : (k : ℕ) → k ≤ edgeRoom → edgeNumber k ≡ k - 1

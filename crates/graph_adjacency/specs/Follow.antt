@@ -2,20 +2,21 @@
 use mathlib.Core.Path.{_≡_}
 use mathlib.Core.List.{List, [], _∷_}
 use Prim.Native.Nat.{ℕ, _≤_, _<_}
+use Rattle.limits.specs.Limits.{mostNodes, arcRoom}
 use Rattle.graph_spec.specs.Graph.{Edge, Arc}
-use Rattle.graph_adjacency.specs.Lists.{Adjacency, nodeRoom, nextArc, arcAt}
+use Rattle.graph_adjacency.specs.Lists.{Adjacency, nextArc, arcAt}
 
 -- both ends of each edge are nodes
 unfoldable pub Ends : List Edge → Type 0
 Ends [] = Unit
-Ends (e ∷ es) = (e .a < nodeRoom) × (e .b < nodeRoom) × Ends es
+Ends (e ∷ es) = (e .a < mostNodes) × (e .b < mostNodes) × Ends es
 
 -- ---- following
 
 -- k is an arc of the node v, it is r, and the arcs after it have lower numbers
 pub record AtArc (g : Adjacency) (v k : ℕ) (r : Arc) : Type 0 where
   pub some : 0 < k
-  pub within : k ≤ 8002
+  pub within : k ≤ arcRoom
   pub is : arcAt g k ≡ r
   pub falls : nextArc (g .next) (g .heads) v k < k
 

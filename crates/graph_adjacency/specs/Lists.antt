@@ -6,14 +6,8 @@ use lib.ListN.{getD, set, replicate}
 use lib.Dec.{eqb, leb}
 use lib.IntN.{pos}
 use lib.Ieee.{Float, nan, fin}
+use Rattle.limits.specs.Limits.{mostNodes, edgeRoom, arcRoom}
 use Rattle.graph_spec.specs.Graph.{Edge, Arc}
-
--- room for the edges of a repaired graph and the virtual edge, and for the nodes of any drawing
-abbrev pub edgeRoom : ℕ
-edgeRoom = 4001
-
-abbrev pub nodeRoom : ℕ
-nodeRoom = 1534
 
 -- An arc is an edge seen from one of its ends. The edge e has the arc e + 1 from its second end, and e + 4002 from its first; 0 is no arc.
 -- `ends` has at k - 1 the node that the arc k leads to: so the edge's first end at e, its second at e + 4001.
@@ -28,7 +22,7 @@ abbrev pub adjacency : List ℕ → List Float → List ℕ → List ℕ → Adj
 adjacency es ws ns hs = record { ends = es; weights = ws; next = ns; heads = hs }
 
 abbrev pub noEdges : Adjacency
-noEdges = adjacency (replicate 8002 0) (replicate 4001 (fin false 0 (pos 0))) (replicate 8002 0) (replicate 3068 0)
+noEdges = adjacency (replicate arcRoom 0) (replicate edgeRoom (fin false 0 (pos 0))) (replicate arcRoom 0) (replicate 3068 0)
 
 -- with the edge number e, from u to v, of weight x
 unfoldable pub push : ℕ → ℕ → ℕ → Float → Adjacency → Adjacency
@@ -36,8 +30,8 @@ push e u v x g =
     adjacency
     (set (set (g .ends) e u) (e + edgeRoom) v)
     (set (g .weights) e x)
-    (set (set (g .next) (e + edgeRoom) (getD (g .heads) u 0)) e (getD (g .heads) (v + nodeRoom) 0))
-    (set (set (g .heads) u (e + (edgeRoom + 1))) (v + nodeRoom) (e + 1))
+    (set (set (g .next) (e + edgeRoom) (getD (g .heads) u 0)) e (getD (g .heads) (v + mostNodes) 0))
+    (set (set (g .heads) u (e + (edgeRoom + 1))) (v + mostNodes) (e + 1))
 
 -- with the edges es, the first of which has the number i
 unfoldable pub pushed : ℕ → List Edge → Adjacency → Adjacency
@@ -60,10 +54,10 @@ orElse k other = pick (eqb k 0) other k
 
 -- the first arc of a node, and the arc after another; 0 where there is none
 unfoldable pub firstArc : List ℕ → ℕ → ℕ
-firstArc hs v = orElse (getD hs v 0) (getD hs (v + nodeRoom) 0)
+firstArc hs v = orElse (getD hs v 0) (getD hs (v + mostNodes) 0)
 
 unfoldable pub nextArc : List ℕ → List ℕ → ℕ → ℕ → ℕ
-nextArc ns hs v k = pick (leb k edgeRoom) (getD ns (k - 1) 0) (orElse (getD ns (k - 1) 0) (getD hs (v + nodeRoom) 0))
+nextArc ns hs v k = pick (leb k edgeRoom) (getD ns (k - 1) 0) (orElse (getD ns (k - 1) 0) (getD hs (v + mostNodes) 0))
 
 -- the number of an arc's edge
 unfoldable pub edgeNumber : ℕ → ℕ

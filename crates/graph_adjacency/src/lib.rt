@@ -8,6 +8,7 @@ ghost use mathlib.Core.Path.{_≡_};
 ghost use Prim.Native.Nat.{_<_, _≤_};
 ghost use lib.ListN.{getD};
 ghost use lib.Ieee.{nan};
+ghost use Rattle.limits.specs.Limits.{mostNodes, edgeRoom, arcRoom};
 ghost use Rattle.graph_adjacency.specs.Lists.{adjacency, push, firstArc, nextArc, edgeNumber};
 use limits::EDGE_ROOM;
 use limits::MOST_NODES;
@@ -26,7 +27,7 @@ pub fn push_edge(
     v: usize,
     weight: f64,
 )
-    requires { ⌜ (e < 4001) × (u < 1534) × (v < 1534) ⌝ }
+    requires { ⌜ (e < edgeRoom) × (u < mostNodes) × (v < mostNodes) ⌝ }
     ensures { λ _. ⌜ adjacency (now (ends .exit)) (now (weights .exit)) (now (next .exit)) (now (heads .exit)) ≡ push e u v weight (adjacency (now (ends .entry)) (now (weights .entry)) (now (next .entry)) (now (heads .entry))) ⌝ }
 {
     let first = e + EDGE_ROOM;
@@ -40,20 +41,14 @@ pub fn push_edge(
     heads[second] = (e + 1) as u16;
 }
 
-fn wide(x: u16) -> usize
-    ensures { λ r. ⌜ r ≡ x ⌝ }
-{
-    x as usize
-}
-
 // The first arc of a node, in the order in which its edges are looked at; 0 where it has none.
 pub fn first_arc(heads: &[u16; 2 * MOST_NODES], v: usize) -> usize
-    requires { ⌜ v < 1534 ⌝ }
+    requires { ⌜ v < mostNodes ⌝ }
     ensures { λ r. ⌜ r ≡ firstArc (now (heads .entry)) v ⌝ }
 {
-    let head = wide(heads[v]);
+    let head = widen::wide(heads[v]);
     if head == 0 {
-        return wide(heads[v + MOST_NODES]);
+        return widen::wide(heads[v + MOST_NODES]);
     }
     head
 }
@@ -65,15 +60,15 @@ pub fn next_arc(
     v: usize,
     k: usize,
 ) -> usize
-    requires { ⌜ (0 < k) × (k ≤ 8002) × (v < 1534) ⌝ }
+    requires { ⌜ (0 < k) × (k ≤ arcRoom) × (v < mostNodes) ⌝ }
     ensures { λ r. ⌜ r ≡ nextArc (now (next .entry)) (now (heads .entry)) v k ⌝ }
 {
-    let older = wide(next[k - 1]);
+    let older = widen::wide(next[k - 1]);
     if k <= EDGE_ROOM {
         return older;
     }
     if older == 0 {
-        return wide(heads[v + MOST_NODES]);
+        return widen::wide(heads[v + MOST_NODES]);
     }
     older
 }

@@ -7,10 +7,11 @@ use native.Mathlib.Omega.{arith}
 use lib.ListN.{length, getD}
 use lib.Seq.{getD-set-same, getD-set-other}
 use lib.Ieee.{Float, nan}
+use Rattle.limits.specs.Limits.{mostNodes, edgeRoom}
 use Rattle.graph_spec.specs.Graph.{Edge, edge}
 use Rattle.graph_spec.specs.Ways.{Inside}
 use Rattle.graph_spec.proofs.EdgesAt.{edgeAt}
-use Rattle.graph_adjacency.specs.Lists.{Adjacency, adjacency, edgeRoom, nodeRoom, noEdges, push, pushed, lists}
+use Rattle.graph_adjacency.specs.Lists.{Adjacency, adjacency, noEdges, push, pushed, lists}
 use Rattle.graph_adjacency.proofs.Follow.{Sized, push-sized, lists-sized}
 use Rattle.graph_edge_arrays.specs.Held.{EndsHeld}
 use Rattle.graph_edge_arrays.proofs.Held.{first-end, second-end}
@@ -46,7 +47,7 @@ weight-at : (es : List Edge) → length es ≤ edgeRoom → (j : ℕ) → j < le
 unfolding lists pushed
 weight-at es b j h = ap (λ (q : ℕ). getD (pushed 0 es noEdges .weights) q nan) (sym (zero-add j)) ∙ weight-placed 0 es noEdges (lists-sized []) (omega arith) j h
 
-module _ (n : ℕ) (es : List Edge) (ends : List ℕ) (weights : List Float) (next heads : List ℕ) (room : n ≤ nodeRoom) (few : length es ≤ edgeRoom) (inside : Inside n es)
+module _ (n : ℕ) (es : List Edge) (ends : List ℕ) (weights : List Float) (next heads : List ℕ) (room : n ≤ mostNodes) (few : length es ≤ edgeRoom) (inside : Inside n es)
     (is : adjacency ends weights next heads ≡ lists es) where
   ends-held : EndsHeld n es ends
   ends-held = record { few = few; room = room; inside = inside; ends-are = ap (λ (g : Adjacency). g .ends) (sym is) }

@@ -4,10 +4,11 @@ use mathlib.Core.List.{List}
 use Prim.Native.Nat.{ℕ, _+_, _^_, _≤_}
 use lib.ListN.{length, getD, take}
 use lib.Ieee.{Float, nan}
+use Rattle.limits.specs.Limits.{mostNodes, edgeRoom}
 use Rattle.drawing_spec.specs.Drawing.{Point}
 use Rattle.graph_spec.specs.Graph.{Edge, edge, Graph}
 use Rattle.graph_spec.specs.Ways.{Inside}
-use Rattle.graph_adjacency.specs.Lists.{adjacency, lists, edgeRoom, nodeRoom}
+use Rattle.graph_adjacency.specs.Lists.{adjacency, lists}
 use Rattle.repair_spec.specs.Cost.{Weights}
 use Rattle.graph_arrays.specs.Tabulate.{tabulate}
 
@@ -28,7 +29,7 @@ graphIn n m xs ys ends weights = record { nodes = nodesIn n xs ys; edges = edges
 
 -- the edges' arrays: the other two hold the lists of each node's edges
 pub record EdgesSound (n m : ℕ) (ends : List ℕ) (weights : List Float) (next heads : List ℕ) : Type 0 where
-  pub few-nodes : n ≤ nodeRoom
+  pub few-nodes : n ≤ mostNodes
   pub few-edges : m ≤ edgeRoom
   pub linked : adjacency ends weights next heads ≡ lists (edgesIn m ends weights)
   pub inside : Inside n (edgesIn m ends weights)

@@ -7,16 +7,17 @@ use native.Mathlib.Nat.{add-zero, zero-add, add-suc, suc-add, le-of-suc-le-suc}
 use native.Mathlib.Omega.{arith}
 use lib.ListN.{length, getD, set, length-set}
 use lib.Seq.{getD-set-same, getD-set-other}
+use Rattle.limits.specs.Limits.{mostNodes, edgeRoom}
 use Rattle.graph_spec.specs.Graph.{Edge}
 use Rattle.graph_spec.specs.Ways.{Inside}
 use Rattle.graph_spec.proofs.EdgesAt.{edgeAt, edgeAt-in}
-use Rattle.graph_adjacency.specs.Lists.{Adjacency, edgeRoom, nodeRoom, noEdges, push, pushed, lists}
+use Rattle.graph_adjacency.specs.Lists.{Adjacency, noEdges, push, pushed, lists}
 use Rattle.graph_adjacency.specs.Follow.{Ends}
 use Rattle.graph_adjacency.proofs.Follow.{Sized, push-sized, lists-sized}
 use Rattle.graph_edge_arrays.specs.Held.{EndsHeld, Held}
 
 -- whoever has the arrays of a graph's edges has this
-pub held : (n : ℕ) (es : List Edge) (ends next heads : List ℕ) (g : Adjacency) → length es ≤ edgeRoom → n ≤ nodeRoom → Inside n es
+pub held : (n : ℕ) (es : List Edge) (ends next heads : List ℕ) (g : Adjacency) → length es ≤ edgeRoom → n ≤ mostNodes → Inside n es
     → g ≡ lists es → g .ends ≡ ends → g .next ≡ next → g .heads ≡ heads → Held n es ends next heads
 held n es ends next heads g few room inside is ends-are next-are heads-are = record {
   by-ends = record { few = few; room = room; inside = inside; ends-are = ap (λ (h : Adjacency). h .ends) (sym is) ∙ ends-are };
@@ -77,13 +78,13 @@ module _ (n : ℕ) (es : List Edge) (ends : List ℕ) (H : EndsHeld n es ends) w
   second-end j h = subst (λ (q : List ℕ). getD q (j + edgeRoom) 0 ≡ edgeAt es j .b) (H .ends-are) (lists-at es (H .few) j h .1)
 
   -- both are nodes
-  pub ends-below : (j : ℕ) → j < length es → (getD ends j 0 < nodeRoom) × (getD ends (j + edgeRoom) 0 < nodeRoom)
+  pub ends-below : (j : ℕ) → j < length es → (getD ends j 0 < mostNodes) × (getD ends (j + edgeRoom) 0 < mostNodes)
   ends-below j h =
       let i = H .inside (edgeAt es j) (edgeAt-in es j h) in
       (omega (arith, first-end j h, i .0, H .room), omega (arith, second-end j h, i .1, H .room))
 
 -- for the laws of a node's list
-pub inside-ends : (n : ℕ) (es : List Edge) → n ≤ nodeRoom → Inside n es → Ends es
+pub inside-ends : (n : ℕ) (es : List Edge) → n ≤ mostNodes → Inside n es → Ends es
 unfolding Ends
 inside-ends n [] r h = tt
 inside-ends n (e ∷ es) r h = let k = h e (inl refl) in (omega (arith, k .0), omega (arith, k .1), inside-ends n es r (λ x i. h x (inr i)))

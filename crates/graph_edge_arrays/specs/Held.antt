@@ -3,14 +3,15 @@ use mathlib.Core.Path.{_≡_}
 use mathlib.Core.List.{List}
 use Prim.Native.Nat.{ℕ, _≤_}
 use lib.ListN.{length}
+use Rattle.limits.specs.Limits.{mostNodes, edgeRoom}
 use Rattle.graph_spec.specs.Graph.{Edge}
 use Rattle.graph_spec.specs.Ways.{Inside}
-use Rattle.graph_adjacency.specs.Lists.{edgeRoom, nodeRoom, lists}
+use Rattle.graph_adjacency.specs.Lists.{lists}
 
 -- `ends` holds the ends of the edges es, which lie among n nodes
 pub record EndsHeld (n : ℕ) (es : List Edge) (ends : List ℕ) : Type 0 where
   pub few : length es ≤ edgeRoom
-  pub room : n ≤ nodeRoom
+  pub room : n ≤ mostNodes
   pub inside : Inside n es
   pub ends-are : lists es .ends ≡ ends
 

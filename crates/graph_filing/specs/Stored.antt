@@ -2,6 +2,7 @@
 use mathlib.Core.List.{List}
 use Prim.Native.Nat.{ℕ, zero, suc, _+_, _-_, _*_, _<_}
 use lib.ListN.{getD, set}
+use Rattle.limits.specs.Limits.{mostPoints}
 use Rattle.drawing_spec.specs.Drawing.{Point}
 use Rattle.graph_spec.specs.Chain.{squared}
 use Rattle.graph_segment_ends.specs.Ends.{Filed, filed, fileEnd}
@@ -54,7 +55,7 @@ pub record LowPoints (ps : Points) : Type 0 where
 
 pub record EndFits (starts : List ℕ) (line segment : ℕ) : Type 0 where
   pub line-low : line < 257
-  pub place-low : placeIn starts line segment < 1024
+  pub place-low : placeIn starts line segment < mostPoints
 
 pub record LinkFits (starts : List ℕ) (m : MstEdge) : Type 0 where
   pub first : EndFits starts (m .«poly_a») (m .«seg_a»)

@@ -2,6 +2,7 @@
 // one more for the second end.
 ghost use mathlib.Core.Path.{_≡_};
 ghost use Prim.Native.Nat.{ℕ, _+_, _*_, _^_, _<_, _≤_};
+ghost use Rattle.limits.specs.Limits.{mostSplits, mostLinks};
 ghost use Rattle.grid.specs.Grid.{placeOf};
 ghost use Rattle.drawing_spec.specs.Read.{placeAt};
 ghost use Rattle.graph_splits.specs.Next.{at};
@@ -14,12 +15,6 @@ use limits::MOST_LINES;
 use limits::MOST_LINKS;
 use limits::MOST_POINTS;
 use limits::MOST_SPLITS;
-
-fn wide(x: u16) -> usize
-    ensures { λ r. ⌜ r ≡ x ⌝ }
-{
-    x as usize
-}
 
 // The place of a coordinate that is on the grid.
 pub fn place_of(x: f64) -> u32
@@ -49,14 +44,14 @@ fn file_one(
     x: u32,
     y: u32,
 )
-    requires number { ⌜ (e < 510) × (x ≤ 2 ^ 24) × (y ≤ 2 ^ 24) ⌝ }
+    requires number { ⌜ (e < mostSplits) × (x ≤ 2 ^ 24) × (y ≤ 2 ^ 24) ⌝ }
     requires fits { ⌜ EndFits (now starts) line segment ⌝ }
     requires low { ⌜ LowPoints (points (now lx) (now ly)) ⌝ }
     ensures { λ _. ⌜ store (now (newest .exit)) (now (next .exit)) (now (dists .exit)) (now (pxs .exit)) (now (pys .exit)) ≡ storeEnd (points (now (lx .entry)) (now (ly .entry))) e (placeIn (now (starts .entry)) line segment) (at x y) (store (now (newest .entry)) (now (next .entry)) (now (dists .entry)) (now (pxs .entry)) (now (pys .entry))) ⌝ }
 {
-    let i = wide(line);
-    let first = wide(starts[i]);
-    let s = wide(segment);
+    let i = widen::wide(line);
+    let first = widen::wide(starts[i]);
+    let s = widen::wide(segment);
     let g = first + s;
     let ax = lx[g];
     let ay = ly[g];
@@ -80,7 +75,7 @@ pub fn file_link(
     i: usize,
     link: MstEdge,
 )
-    requires number { ⌜ i < 255 ⌝ }
+    requires number { ⌜ i < mostLinks ⌝ }
     requires fits { ⌜ LinkFits (now starts) link ⌝ }
     requires low { ⌜ LowPoints (points (now lx) (now ly)) ⌝ }
     ensures { λ _. ⌜ store (now (newest .exit)) (now (next .exit)) (now (dists .exit)) (now (pxs .exit)) (now (pys .exit)) ≡ storeLink (now (starts .entry)) (points (now (lx .entry)) (now (ly .entry))) i link (store (now (newest .entry)) (now (next .entry)) (now (dists .entry)) (now (pxs .entry)) (now (pys .entry))) ⌝ }
@@ -136,7 +131,7 @@ pub fn file_links(
     links: [MstEdge; MOST_LINKS],
     count: usize,
 )
-    requires few { ⌜ count ≤ 255 ⌝ }
+    requires few { ⌜ count ≤ mostLinks ⌝ }
     requires fits { ⌜ LinksFit (now starts) links count ⌝ }
     requires low { ⌜ LowPoints (points (now lx) (now ly)) ⌝ }
     ensures { λ _. ⌜ store (now (newest .exit)) (now (next .exit)) (now (dists .exit)) (now (pxs .exit)) (now (pys .exit)) ≡ storeLinks (now (starts .entry)) (points (now (lx .entry)) (now (ly .entry))) links count 0 (store (now (newest .entry)) (now (next .entry)) (now (dists .entry)) (now (pxs .entry)) (now (pys .entry))) ⌝ }

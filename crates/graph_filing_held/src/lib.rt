@@ -2,6 +2,7 @@
 // struct, so whoever calls it needs no proof by hand.
 ghost use mathlib.Core.Path.{_≡_};
 ghost use Prim.Native.Nat.{_≤_};
+ghost use Rattle.limits.specs.Limits.{mostLinks};
 ghost use Rattle.graph_line.specs.Lines.{points};
 ghost use Rattle.graph_filing.specs.Stored.{store, storeLinks, LowPoints, LinksFit};
 use file_records::MstEdge;
@@ -23,7 +24,7 @@ pub fn file_held(
     links: [MstEdge; MOST_LINKS],
     count: usize,
 )
-    requires { ⌜ (count ≤ 255) × LinksFit (now starts) links count × LowPoints (points (now lx) (now ly)) ⌝ }
+    requires { ⌜ (count ≤ mostLinks) × LinksFit (now starts) links count × LowPoints (points (now lx) (now ly)) ⌝ }
     ensures { λ _. ⌜ store (now (newest .exit)) (now (next .exit)) (now (dists .exit)) (now (pxs .exit)) (now (pys .exit)) ≡ storeLinks (now (starts .entry)) (points (now (lx .entry)) (now (ly .entry))) links count 0 (store (now (newest .entry)) (now (next .entry)) (now (dists .entry)) (now (pxs .entry)) (now (pys .entry))) ⌝ }
 {
     graph_filing_lent::file_lent(

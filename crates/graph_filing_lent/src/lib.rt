@@ -3,6 +3,7 @@
 ghost use mathlib.Core.Path.{_≡_};
 ghost use Prim.Native.Nat.{_≤_};
 ghost use lib.ListN.{length};
+ghost use Rattle.limits.specs.Limits.{mostLinks};
 ghost use Rattle.graph_line.specs.Lines.{points};
 ghost use Rattle.graph_filing.specs.Stored.{store, storeLinks, LowPoints, LinksFit};
 use file_records::MstEdge;
@@ -22,7 +23,7 @@ pub fn file_lent(
     ly: &[u32; MOST_POINTS],
     links: &[MstEdge],
 )
-    requires { ⌜ (length (now links) ≤ 255) × LinksFit (now starts) (now links) (length (now links)) × LowPoints (points (now lx) (now ly)) ⌝ }
+    requires { ⌜ (length (now links) ≤ mostLinks) × LinksFit (now starts) (now links) (length (now links)) × LowPoints (points (now lx) (now ly)) ⌝ }
     ensures { λ _. ⌜ store (now (newest .exit)) (now (next .exit)) (now (dists .exit)) (now (pxs .exit)) (now (pys .exit)) ≡ storeLinks (now (starts .entry)) (points (now (lx .entry)) (now (ly .entry))) (now (links .entry)) (length (now (links .entry))) 0 (store (now (newest .entry)) (now (next .entry)) (now (dists .entry)) (now (pxs .entry)) (now (pys .entry))) ⌝ }
 {
     let mut i = 0;

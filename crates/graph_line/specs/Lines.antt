@@ -4,6 +4,7 @@ use mathlib.Core.List.{List, [], _∷_}
 use Prim.Native.Nat.{ℕ, _+_, _-_, _<_}
 use lib.ListN.{getD}
 use lib.Dec.{ltb}
+use Rattle.limits.specs.Limits.{mostPoints}
 use Rattle.drawing_spec.specs.Drawing.{Point}
 use Rattle.graph_splits.specs.Next.{at}
 use Rattle.graph_segment_ends.specs.Gather.{Keyed}
@@ -39,7 +40,7 @@ pointIn ps g = at (getD (ps .xs) g 0) (getD (ps .ys) g 0)
 
 -- each end has its distance from the start of its segment
 pub record AllDistances (f : Filing) (ps : Points) : Type 0 where
-  pub from : (g : ℕ) → g < 1024 → Distances (pointIn ps g) (f .keyed) (f .next) (getD (f .newest) g 0)
+  pub from : (g : ℕ) → g < mostPoints → Distances (pointIn ps g) (f .keyed) (f .next) (getD (f .newest) g 0)
 
 -- the moves of a line from its point g on, whose points end before `stop`
 abbrev pub segmentsFrom : Filing → Points → ℕ → ℕ → List Move

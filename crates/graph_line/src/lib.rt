@@ -1,6 +1,7 @@
 // Lines traced, segment by segment.
 ghost use mathlib.Core.Path.{_≡_};
 ghost use Prim.Native.Nat.{_≤_};
+ghost use Rattle.limits.specs.Limits.{mostPoints};
 ghost use Rattle.graph_adjacency.specs.Lists.{adjacency};
 ghost use Rattle.graph_nodes.specs.Table.{table};
 ghost use Rattle.graph_splits.specs.Next.{at};
@@ -70,12 +71,6 @@ pub fn trace_segment(
     )
 }
 
-fn wide(x: u16) -> usize
-    ensures { λ r. ⌜ r ≡ x ⌝ }
-{
-    x as usize
-}
-
 // One line, whose points are those from `first` to `stop`; an empty one is nothing.
 pub fn trace_line(
     xs: &mut [u32; MOST_NODES],
@@ -100,7 +95,7 @@ pub fn trace_line(
     stop: usize,
     from: Trail,
 ) -> Trail
-    requires inside { ⌜ stop ≤ 1024 ⌝ }
+    requires inside { ⌜ stop ≤ mostPoints ⌝ }
     requires scratch { ⌜ Scratch (now keys) (now sx) (now sy) ⌝ }
     requires distances { ⌜ AllDistances (filing (keyed (now dists) (now pxs) (now pys)) (now filed) (now newest)) (points (now lx) (now ly)) ⌝ }
     requires room { ⌜ Ready (lineIn (filing (keyed (now dists) (now pxs) (now pys)) (now filed) (now newest)) (points (now lx) (now ly)) first stop) (traced (table (now xs) (now ys) (now older) (now buckets)) (adjacency (now ends) (now weights) (now next) (now heads)) (from .nodes) (from .edges) (from .node)) ⌝ }
@@ -116,7 +111,7 @@ pub fn trace_line(
     let mut t = graph_strokes::begin(xs, ys, older, buckets, from.nodes, from.edges, qx, qy);
     let mut g = first;
     while g < last {
-        let e = wide(newest[g]);
+        let e = widen::wide(newest[g]);
         let ax = lx[g];
         let ay = ly[g];
         let bx = lx[g + 1];

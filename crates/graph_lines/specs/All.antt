@@ -2,6 +2,7 @@
 use mathlib.Core.List.{List, [], _∷_, _++_}
 use Prim.Native.Nat.{ℕ, zero, suc, _+_, _*_, _≤_}
 use lib.ListN.{getD}
+use Rattle.limits.specs.Limits.{mostPoints}
 use Rattle.graph_segment_ends.specs.Gather.{Keyed, pointOf}
 use Rattle.graph_moves.specs.Moves.{Move, start, on}
 use Rattle.graph_line.specs.Lines.{Filing, Points, lineIn}
@@ -15,7 +16,7 @@ linesIn f ps starts (suc n) i = lineIn f ps (getD starts i 0) (getD starts (i + 
 
 -- every line ends among the points
 pub record StartsInside (starts : List ℕ) : Type 0 where
-  pub low : (i : ℕ) → getD starts i 0 ≤ 1024
+  pub low : (i : ℕ) → getD starts i 0 ≤ mostPoints
 
 -- ---- links
 

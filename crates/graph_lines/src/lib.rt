@@ -1,6 +1,7 @@
 // All lines of a drawing traced, and then its links.
 ghost use mathlib.Core.Path.{_≡_};
 ghost use Prim.Native.Nat.{_≤_};
+ghost use Rattle.limits.specs.Limits.{mostLinks, mostLines};
 ghost use Rattle.graph_adjacency.specs.Lists.{adjacency};
 ghost use Rattle.graph_nodes.specs.Table.{table};
 ghost use Rattle.graph_segment_ends.specs.Gather.{keyed};
@@ -17,12 +18,6 @@ use limits::MOST_LINES;
 use limits::MOST_NODES;
 use limits::MOST_POINTS;
 use limits::MOST_SPLITS;
-
-fn wide(x: u16) -> usize
-    ensures { λ r. ⌜ r ≡ x ⌝ }
-{
-    x as usize
-}
 
 // All lines, in their order: line i's points are those from starts[i] to starts[i + 1].
 pub fn trace_lines(
@@ -48,7 +43,7 @@ pub fn trace_lines(
     lines: usize,
     from: Trail,
 ) -> Trail
-    requires few { ⌜ lines ≤ 256 ⌝ }
+    requires few { ⌜ lines ≤ mostLines ⌝ }
     requires inside { ⌜ StartsInside (now starts) ⌝ }
     requires scratch { ⌜ Scratch (now keys) (now sx) (now sy) ⌝ }
     requires distances { ⌜ AllDistances (filing (keyed (now dists) (now pxs) (now pys)) (now filed) (now newest)) (points (now lx) (now ly)) ⌝ }
@@ -58,8 +53,8 @@ pub fn trace_lines(
     let mut t = from;
     let mut i = 0;
     while i < lines {
-        let first = wide(starts[i]);
-        let stop = wide(starts[i + 1]);
+        let first = widen::wide(starts[i]);
+        let stop = widen::wide(starts[i + 1]);
         t = graph_line::trace_line(
             xs,
             ys,
@@ -104,7 +99,7 @@ pub fn trace_links(
     links: usize,
     from: Trail,
 ) -> Trail
-    requires few { ⌜ links ≤ 255 ⌝ }
+    requires few { ⌜ links ≤ mostLinks ⌝ }
     requires room { ⌜ Ready (linksIn (keyed (now dists) (now pxs) (now pys)) links 0) (traced (table (now xs) (now ys) (now older) (now buckets)) (adjacency (now ends) (now weights) (now next) (now heads)) (from .nodes) (from .edges) (from .node)) ⌝ }
     ensures { λ r. ⌜ traced (table (now (xs .exit)) (now (ys .exit)) (now (older .exit)) (now (buckets .exit))) (adjacency (now (ends .exit)) (now (weights .exit)) (now (next .exit)) (now (heads .exit))) (r .nodes) (r .edges) (r .node) ≡ tracedAlong origin (linksIn (keyed (now (dists .entry)) (now (pxs .entry)) (now (pys .entry))) links 0) (traced (table (now (xs .entry)) (now (ys .entry)) (now (older .entry)) (now (buckets .entry))) (adjacency (now (ends .entry)) (now (weights .entry)) (now (next .entry)) (now (heads .entry))) (from .nodes) (from .edges) (from .node)) ⌝ }
 {

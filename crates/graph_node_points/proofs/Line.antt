@@ -6,9 +6,10 @@ use native.Mathlib.Decide.{decLe}
 use native.Mathlib.Omega.{arith}
 use lib.ListN.{length, getD, take, drop, replicate, length-replicate, List·getD-append, List·getD-eq-default}
 use lib.Seq.{sets, sets-eq, length-sets, take-append-seam, getD-append-add, getD-drop}
+use Rattle.limits.specs.Limits.{mostNodes}
 use Rattle.drawing_spec.specs.Members.{All}
 use Rattle.drawing_spec.proofs.Members.{getD-same}
-use Rattle.graph_node_points.specs.Line.{Nodes, nodeRoom}
+use Rattle.graph_node_points.specs.Line.{Nodes}
 
 -- ---- a list put into an array of zeros
 
@@ -43,9 +44,9 @@ all-at P (v ∷ vs) z a zero = a .0
 all-at P (v ∷ vs) z a (suc j) = all-at P vs z (a .1) j
 
 -- a list of nodes in an array of zeros
-pub listed-nodes : (vs nodes : List ℕ) (count : ℕ) → length vs ≤ nodeRoom → All (λ (v : ℕ). v < nodeRoom) vs → nodes ≡ sets (replicate nodeRoom 0) 0 vs → count ≡ length vs → Nodes nodeRoom nodes count
+pub listed-nodes : (vs nodes : List ℕ) (count : ℕ) → length vs ≤ mostNodes → All (λ (v : ℕ). v < mostNodes) vs → nodes ≡ sets (replicate mostNodes 0) 0 vs → count ≡ length vs → Nodes mostNodes nodes count
 listed-nodes vs nodes count fits a e c = record {
   count-in = omega (arith, c);
-  long = omega (arith, c, ap length e, listed-long nodeRoom vs fits);
-  nodes-in = λ j l. omega (arith, ap (λ (q : List ℕ). getD q j 0) e, listed-at nodeRoom vs fits j, all-at (λ (v : ℕ). v < nodeRoom) vs (omega arith) a j);
+  long = omega (arith, c, ap length e, listed-long mostNodes vs fits);
+  nodes-in = λ j l. omega (arith, ap (λ (q : List ℕ). getD q j 0) e, listed-at mostNodes vs fits j, all-at (λ (v : ℕ). v < mostNodes) vs (omega arith) a j);
 }

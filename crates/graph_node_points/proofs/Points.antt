@@ -9,16 +9,15 @@ use Rattle.drawing_spec.specs.Drawing.{Point}
 use Rattle.drawing_spec.specs.Members.{All}
 use Rattle.drawing_spec.specs.OnGrid.{OnGrid}
 use Rattle.graph_spec.specs.Graph.{pointAt}
-use Rattle.limits.specs.Limits.{mostSide}
+use Rattle.limits.specs.Limits.{mostSide, mostNodes}
 use Rattle.graph_nodes.specs.Table.{Table}
 use Rattle.graph_nodes.specs.Held.{Held}
-use Rattle.graph_node_points.specs.Line.{nodeRoom}
 use Rattle.graph_node_points.proofs.Line.{listed-at}
 use Rattle.graph_node_points.specs.Points.{Places, Points}
 
 -- ---- the node table's arrays hold its points
 
-read-map : (f : Point → ℕ) (ns : List Point) (v : ℕ) → f (record { x = 0; y = 0 }) ≡ 0 → length ns ≤ nodeRoom → getD (sets (replicate 1534 0) 0 (map f ns)) v 0 ≡ f (pointAt ns v)
+read-map : (f : Point → ℕ) (ns : List Point) (v : ℕ) → f (record { x = 0; y = 0 }) ≡ 0 → length ns ≤ mostNodes → getD (sets (replicate 1534 0) 0 (map f ns)) v 0 ≡ f (pointAt ns v)
 read-map f ns v z room =
     listed-at 1534 (map f ns) (omega (arith, length-map ns f)) v ∙ ap (getD (map f ns) v) (sym z) ∙ List·getD-map f ns v (record { x = 0; y = 0 })
 

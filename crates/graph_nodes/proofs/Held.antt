@@ -11,11 +11,12 @@ use lib.ListN.{length, getD, set, replicate, length-set, length-append, length-r
 use lib.Seq.{sets, length-sets, getD-set-same, getD-set-other}
 use lib.Dec.{eqb, ltb, lit<}
 use borrow.Author.Tests.{lt-ltb, le-ltb, ltb-true, ltb-false, eqb-true, eqb-false, eq-eqb, ne-eqb}
+use Rattle.limits.specs.Limits.{mostNodes}
 use Rattle.drawing_spec.specs.Drawing.{Point, same}
 use Rattle.drawing_spec.proofs.Same.{same-true, same-false, differ}
 use Rattle.graph_spec.specs.Graph.{find, nodeOf, getOrInsert}
 use Rattle.graph_spec.proofs.Nodes.{front, behind, neither}
-use Rattle.graph_nodes.specs.Table.{Table, noNodes, nodeRoom, hashOf, pick, isAt, seek, foundIn, inserted, numberIn, tableWith, countWith}
+use Rattle.graph_nodes.specs.Table.{Table, noNodes, hashOf, pick, isAt, seek, foundIn, inserted, numberIn, tableWith, countWith}
 use Rattle.graph_nodes.proofs.Table.{seek-hit, seek-on, seek-none, number-found, number-new, with-found, with-new}
 use Rattle.graph_nodes.specs.Held.{Held, Inside, answer}
 
@@ -67,24 +68,24 @@ answer-kept ns p q d = go (ltb (nodeOf ns p) (length ns)) refl
     more : length (ns ++ (q ∷ [])) ≡ length ns + 1
     more = length-append ns (q ∷ [])
 
-    go : (b : Bool) → ltb (nodeOf ns p) (length ns) ≡ b → pick b (nodeOf ns p) nodeRoom ≡ answer (ns ++ (q ∷ [])) p
+    go : (b : Bool) → ltb (nodeOf ns p) (length ns) ≡ b → pick b (nodeOf ns p) mostNodes ≡ answer (ns ++ (q ∷ [])) p
     go true e =
         let low : nodeOf ns p < length ns = ltb-true _ _ e in
         let is = front ns (q ∷ []) p low in
         let below : nodeOf (ns ++ (q ∷ [])) p < length (ns ++ (q ∷ [])) = omega (arith, is, more) in
-        sym (ap (λ (b : Bool). pick b (nodeOf (ns ++ (q ∷ [])) p) nodeRoom) (lt-ltb _ _ below) ∙ is)
+        sym (ap (λ (b : Bool). pick b (nodeOf (ns ++ (q ∷ [])) p) mostNodes) (lt-ltb _ _ below) ∙ is)
     go false e =
         let is = neither ns p q (ltb-false _ _ e) d in
         let past : length (ns ++ (q ∷ [])) ≤ nodeOf (ns ++ (q ∷ [])) p = omega (arith, is, more) in
-        sym (ap (λ (b : Bool). pick b (nodeOf (ns ++ (q ∷ [])) p) nodeRoom) (le-ltb _ _ past))
+        sym (ap (λ (b : Bool). pick b (nodeOf (ns ++ (q ∷ [])) p) mostNodes) (le-ltb _ _ past))
 
 answer-new : (ns : List Point) (q : Point) → length ns ≤ nodeOf ns q → answer (ns ++ (q ∷ [])) q ≡ length ns
 answer-new ns q h =
     let is = behind ns q h in
     let below : nodeOf (ns ++ (q ∷ [])) q < length (ns ++ (q ∷ [])) = omega (arith, is, length-append ns (q ∷ [])) in
-    ap (λ (b : Bool). pick b (nodeOf (ns ++ (q ∷ [])) q) nodeRoom) (lt-ltb _ _ below) ∙ is
+    ap (λ (b : Bool). pick b (nodeOf (ns ++ (q ∷ [])) q) mostNodes) (lt-ltb _ _ below) ∙ is
 
-module _ (t : Table) (ns : List Point) (H : Held t ns) (q : Point) (new : length ns ≤ nodeOf ns q) (has : length ns < nodeRoom) where
+module _ (t : Table) (ns : List Point) (H : Held t ns) (q : Point) (new : length ns ≤ nodeOf ns q) (has : length ns < mostNodes) where
   -- a search among the older nodes goes on as before
   kept : (fuel x y i : ℕ) → Inside (length ns) i → seek fuel (set (t .xs) (length ns) (q .x)) (set (t .ys) (length ns) (q .y)) (set (t .next) (length ns) (getD (t .buckets) (hashOf (q .x) (q .y)) 0)) x y i
       ≡ seek fuel (t .xs) (t .ys) (t .next) x y i
@@ -102,9 +103,9 @@ module _ (t : Table) (ns : List Point) (H : Held t ns) (q : Point) (new : length
       let x-is = getD-set-other (t .xs) (length ns) i (q .x) 0 off in
       let y-is = getD-set-other (t .ys) (length ns) i (q .y) 0 off in
       let n-is = getD-set-other (t .next) (length ns) i head 0 off in
-      ap (λ (k : ℕ). pick (ltb i nodeRoom) (pick (eqb k x && eqb (getD ys' i 0) y) i (seek fuel xs' ys' ns' x y (getD ns' i 0))) nodeRoom) x-is
-      ∙ ap (λ (k : ℕ). pick (ltb i nodeRoom) (pick (eqb (getD (t .xs) i 0) x && eqb k y) i (seek fuel xs' ys' ns' x y (getD ns' i 0))) nodeRoom) y-is
-      ∙ ap (λ (k : ℕ). pick (ltb i nodeRoom) (pick (isAt (t .xs) (t .ys) x y i) i k) nodeRoom)
+      ap (λ (k : ℕ). pick (ltb i mostNodes) (pick (eqb k x && eqb (getD ys' i 0) y) i (seek fuel xs' ys' ns' x y (getD ns' i 0))) mostNodes) x-is
+      ∙ ap (λ (k : ℕ). pick (ltb i mostNodes) (pick (eqb (getD (t .xs) i 0) x && eqb k y) i (seek fuel xs' ys' ns' x y (getD ns' i 0))) mostNodes) y-is
+      ∙ ap (λ (k : ℕ). pick (ltb i mostNodes) (pick (isAt (t .xs) (t .ys) x y i) i k) mostNodes)
       (ap (seek fuel xs' ys' ns' x y) n-is ∙ kept fuel x y (getD (t .next) i 0) (H .next-inside i h))
 
   next-now : (j : ℕ) → j < length (ns ++ (q ∷ [])) → Inside (suc (length ns)) (getD (set (t .next) (length ns) (getD (t .buckets) (hashOf (q .x) (q .y)) 0)) j 0)
@@ -205,7 +206,7 @@ module _ (t : Table) (ns : List Point) (H : Held t ns) (q : Point) (new : length
 
 -- ---- the code's answers are the list's
 
-pub get-or-insert : (t : Table) (ns : List Point) (p : Point) → Held t ns → length (getOrInsert ns p) ≤ nodeRoom
+pub get-or-insert : (t : Table) (ns : List Point) (p : Point) → Held t ns → length (getOrInsert ns p) ≤ mostNodes
     → (numberIn (length ns) (p .x) (p .y) t ≡ nodeOf (getOrInsert ns p) p) × Held (tableWith (length ns) (p .x) (p .y) t) (getOrInsert ns p)
 unfolding getOrInsert
 get-or-insert t ns p H r = go (ltb (nodeOf ns p) (length ns)) refl r
@@ -213,17 +214,17 @@ get-or-insert t ns p H r = go (ltb (nodeOf ns p) (length ns)) refl r
     is : foundIn (length ns) (p .x) (p .y) t ≡ answer ns p
     is = H .found p (length ns) (omega arith)
 
-    go : (b : Bool) → ltb (nodeOf ns p) (length ns) ≡ b → length {A = Point} (elim b [ true ↦ ns | false ↦ ns ++ (p ∷ []) ]) ≤ nodeRoom
+    go : (b : Bool) → ltb (nodeOf ns p) (length ns) ≡ b → length {A = Point} (elim b [ true ↦ ns | false ↦ ns ++ (p ∷ []) ]) ≤ mostNodes
         → (numberIn (length ns) (p .x) (p .y) t ≡ nodeOf (elim b [ true ↦ ns | false ↦ ns ++ (p ∷ []) ]) p)
         × Held (tableWith (length ns) (p .x) (p .y) t) (elim b [ true ↦ ns | false ↦ ns ++ (p ∷ []) ])
     go true e r =
-        let at : foundIn (length ns) (p .x) (p .y) t ≡ nodeOf ns p = is ∙ ap (λ (b : Bool). pick b (nodeOf ns p) nodeRoom) e in
-        let low : foundIn (length ns) (p .x) (p .y) t < nodeRoom = omega (arith, ltb-true (nodeOf ns p) (length ns) e, H .room) in
+        let at : foundIn (length ns) (p .x) (p .y) t ≡ nodeOf ns p = is ∙ ap (λ (b : Bool). pick b (nodeOf ns p) mostNodes) e in
+        let low : foundIn (length ns) (p .x) (p .y) t < mostNodes = omega (arith, ltb-true (nodeOf ns p) (length ns) e, H .room) in
         (number-found (length ns) (p .x) (p .y) t low ∙ at, subst (λ (u : Table). Held u ns) (sym (with-found (length ns) (p .x) (p .y) t low)) H)
     go false e r =
-        let at : foundIn (length ns) (p .x) (p .y) t ≡ nodeRoom = is ∙ ap (λ (b : Bool). pick b (nodeOf ns p) nodeRoom) e in
-        let high : nodeRoom ≤ foundIn (length ns) (p .x) (p .y) t = omega arith in
-        let fits : length ns < nodeRoom = omega (arith, length-append ns (p ∷ [])) in
+        let at : foundIn (length ns) (p .x) (p .y) t ≡ mostNodes = is ∙ ap (λ (b : Bool). pick b (nodeOf ns p) mostNodes) e in
+        let high : mostNodes ≤ foundIn (length ns) (p .x) (p .y) t = omega arith in
+        let fits : length ns < mostNodes = omega (arith, length-append ns (p ∷ [])) in
         let new = ltb-false (nodeOf ns p) (length ns) e in (
           number-new (length ns) (p .x) (p .y) t high fits ∙ sym (behind ns p new),
           subst (λ (u : Table). Held u (ns ++ (p ∷ []))) (sym (with-new (length ns) (p .x) (p .y) t high fits)) (held-new t ns H p new fits),

@@ -7,7 +7,8 @@ use lib.ListN.{getD, set}
 use lib.Dec.{eqb, ltb}
 use borrow.Author.Tests.{lt-ltb, le-ltb, eq-eqb, ne-eqb}
 use native.Mathlib.Omega.{arith}
-use Rattle.graph_nodes.specs.Table.{Table, countWith, foundIn, hashOf, inserted, isAt, nodeRoom, numberIn, pick, pickTable, seek, table, tableWith}
+use Rattle.limits.specs.Limits.{mostNodes}
+use Rattle.graph_nodes.specs.Table.{Table, countWith, foundIn, hashOf, inserted, isAt, numberIn, pick, pickTable, seek, table, tableWith}
 
 pub count-new : (n number : ℕ) → number ≡ n → countWith n number ≡ n + 1
 unfolding countWith
@@ -20,31 +21,31 @@ count-old n number h = ap (λ (b : Bool). pick b (n + 1) n) (ne-eqb number n h)
 -- ---- laws of following
 
 module _ (xs ys ns : List ℕ) (x y : ℕ) where
-  pub seek-hit : (fuel i : ℕ) → 0 < fuel → i < nodeRoom → isAt xs ys x y i ≡ true → seek fuel xs ys ns x y i ≡ i
+  pub seek-hit : (fuel i : ℕ) → 0 < fuel → i < mostNodes → isAt xs ys x y i ≡ true → seek fuel xs ys ns x y i ≡ i
   unfolding seek
   seek-hit zero i f h e = absurd (omega arith)
   seek-hit (suc fuel) i f h e =
-      ap (λ (t : Bool). pick t (pick (isAt xs ys x y i) i (seek fuel xs ys ns x y (getD ns i 0))) nodeRoom) (lt-ltb i nodeRoom h)
+      ap (λ (t : Bool). pick t (pick (isAt xs ys x y i) i (seek fuel xs ys ns x y (getD ns i 0))) mostNodes) (lt-ltb i mostNodes h)
       ∙ ap (λ (t : Bool). pick t i (seek fuel xs ys ns x y (getD ns i 0))) e
 
-  pub seek-on : (fuel i : ℕ) → 0 < fuel → i < nodeRoom → isAt xs ys x y i ≡ false → seek fuel xs ys ns x y i ≡ seek (fuel - 1) xs ys ns x y (getD ns i 0)
+  pub seek-on : (fuel i : ℕ) → 0 < fuel → i < mostNodes → isAt xs ys x y i ≡ false → seek fuel xs ys ns x y i ≡ seek (fuel - 1) xs ys ns x y (getD ns i 0)
   unfolding seek
   seek-on zero i f h e = absurd (omega arith)
   seek-on (suc fuel) i f h e =
       let less : fuel ≡ suc fuel - 1 = omega arith in
-      ap (λ (t : Bool). pick t (pick (isAt xs ys x y i) i (seek fuel xs ys ns x y (getD ns i 0))) nodeRoom) (lt-ltb i nodeRoom h)
+      ap (λ (t : Bool). pick t (pick (isAt xs ys x y i) i (seek fuel xs ys ns x y (getD ns i 0))) mostNodes) (lt-ltb i mostNodes h)
       ∙ ap (λ (t : Bool). pick t i (seek fuel xs ys ns x y (getD ns i 0))) e ∙ ap (λ (k : ℕ). seek k xs ys ns x y (getD ns i 0)) less
 
-  pub seek-none : (fuel i : ℕ) → nodeRoom ≤ i → seek fuel xs ys ns x y i ≡ nodeRoom
+  pub seek-none : (fuel i : ℕ) → mostNodes ≤ i → seek fuel xs ys ns x y i ≡ mostNodes
   unfolding seek
   seek-none zero i h = refl
-  seek-none (suc fuel) i h = ap (λ (t : Bool). pick t (pick (isAt xs ys x y i) i (seek fuel xs ys ns x y (getD ns i 0))) nodeRoom) (le-ltb i nodeRoom h)
+  seek-none (suc fuel) i h = ap (λ (t : Bool). pick t (pick (isAt xs ys x y i) i (seek fuel xs ys ns x y (getD ns i 0))) mostNodes) (le-ltb i mostNodes h)
 
-  pub seek-end : (fuel i : ℕ) → fuel ≡ 0 → seek fuel xs ys ns x y i ≡ nodeRoom
+  pub seek-end : (fuel i : ℕ) → fuel ≡ 0 → seek fuel xs ys ns x y i ≡ mostNodes
   unfolding seek
   seek-end fuel i h = ap (λ (k : ℕ). seek k xs ys ns x y i) h
 
-  pub seek-turn : (fuel i i' r : ℕ) → 0 < fuel → i < nodeRoom → isAt xs ys x y i ≡ false → i' ≡ getD ns i 0 → seek fuel xs ys ns x y i ≡ r → seek (fuel - 1) xs ys ns x y i' ≡ r
+  pub seek-turn : (fuel i i' r : ℕ) → 0 < fuel → i < mostNodes → isAt xs ys x y i ≡ false → i' ≡ getD ns i 0 → seek fuel xs ys ns x y i ≡ r → seek (fuel - 1) xs ys ns x y i' ≡ r
   seek-turn fuel i i' r f h e n k = ap (seek (fuel - 1) xs ys ns x y) n ∙ sym (seek-on fuel i f h e) ∙ k
 
 pub at-one : (a b x y : ℕ) → a ≡ x → eqb b y ≡ eqb a x && eqb b y
@@ -61,33 +62,33 @@ inserted-is n x y h t e = ap (λ (k : ℕ). table (set (t .xs) n x) (set (t .ys)
 -- ---- laws of the three cases
 
 module _ (n x y : ℕ) (t : Table) where
-  pub number-found : foundIn n x y t < nodeRoom → numberIn n x y t ≡ foundIn n x y t
+  pub number-found : foundIn n x y t < mostNodes → numberIn n x y t ≡ foundIn n x y t
   unfolding numberIn
-  number-found h = ap (λ (b : Bool). pick b (foundIn n x y t) (pick (ltb n nodeRoom) n nodeRoom)) (lt-ltb _ _ h)
+  number-found h = ap (λ (b : Bool). pick b (foundIn n x y t) (pick (ltb n mostNodes) n mostNodes)) (lt-ltb _ _ h)
 
-  pub number-new : nodeRoom ≤ foundIn n x y t → n < nodeRoom → numberIn n x y t ≡ n
+  pub number-new : mostNodes ≤ foundIn n x y t → n < mostNodes → numberIn n x y t ≡ n
   unfolding numberIn
   number-new h f =
-      ap (λ (b : Bool). pick b (foundIn n x y t) (pick (ltb n nodeRoom) n nodeRoom)) (le-ltb _ _ h) ∙ ap (λ (b : Bool). pick b n nodeRoom) (lt-ltb n nodeRoom f)
+      ap (λ (b : Bool). pick b (foundIn n x y t) (pick (ltb n mostNodes) n mostNodes)) (le-ltb _ _ h) ∙ ap (λ (b : Bool). pick b n mostNodes) (lt-ltb n mostNodes f)
 
-  pub number-full : nodeRoom ≤ foundIn n x y t → nodeRoom ≤ n → numberIn n x y t ≡ nodeRoom
+  pub number-full : mostNodes ≤ foundIn n x y t → mostNodes ≤ n → numberIn n x y t ≡ mostNodes
   unfolding numberIn
   number-full h f =
-      ap (λ (b : Bool). pick b (foundIn n x y t) (pick (ltb n nodeRoom) n nodeRoom)) (le-ltb _ _ h) ∙ ap (λ (b : Bool). pick b n nodeRoom) (le-ltb n nodeRoom f)
+      ap (λ (b : Bool). pick b (foundIn n x y t) (pick (ltb n mostNodes) n mostNodes)) (le-ltb _ _ h) ∙ ap (λ (b : Bool). pick b n mostNodes) (le-ltb n mostNodes f)
 
-  pub with-found : foundIn n x y t < nodeRoom → tableWith n x y t ≡ t
+  pub with-found : foundIn n x y t < mostNodes → tableWith n x y t ≡ t
   unfolding tableWith
-  with-found h = ap (λ (b : Bool). pickTable b t (pickTable (ltb n nodeRoom) (inserted n x y t) t)) (lt-ltb _ _ h)
+  with-found h = ap (λ (b : Bool). pickTable b t (pickTable (ltb n mostNodes) (inserted n x y t) t)) (lt-ltb _ _ h)
 
-  pub with-new : nodeRoom ≤ foundIn n x y t → n < nodeRoom → tableWith n x y t ≡ inserted n x y t
+  pub with-new : mostNodes ≤ foundIn n x y t → n < mostNodes → tableWith n x y t ≡ inserted n x y t
   unfolding tableWith
   with-new h f =
-      ap (λ (b : Bool). pickTable b t (pickTable (ltb n nodeRoom) (inserted n x y t) t)) (le-ltb _ _ h) ∙ ap (λ (b : Bool). pickTable b (inserted n x y t) t) (lt-ltb n nodeRoom f)
+      ap (λ (b : Bool). pickTable b t (pickTable (ltb n mostNodes) (inserted n x y t) t)) (le-ltb _ _ h) ∙ ap (λ (b : Bool). pickTable b (inserted n x y t) t) (lt-ltb n mostNodes f)
 
-  pub with-full : nodeRoom ≤ foundIn n x y t → nodeRoom ≤ n → tableWith n x y t ≡ t
+  pub with-full : mostNodes ≤ foundIn n x y t → mostNodes ≤ n → tableWith n x y t ≡ t
   unfolding tableWith
   with-full h f =
-      ap (λ (b : Bool). pickTable b t (pickTable (ltb n nodeRoom) (inserted n x y t) t)) (le-ltb _ _ h) ∙ ap (λ (b : Bool). pickTable b (inserted n x y t) t) (le-ltb n nodeRoom f)
+      ap (λ (b : Bool). pickTable b t (pickTable (ltb n mostNodes) (inserted n x y t) t)) (le-ltb _ _ h) ∙ ap (λ (b : Bool). pickTable b (inserted n x y t) t) (le-ltb n mostNodes f)
 
 -- what the three ways through the code answer
 module _ (n x y : ℕ) (t : Table) (h start found : ℕ) (hh : h ≡ hashOf x y) (hs : start ≡ getD (t .buckets) h 0)
@@ -95,11 +96,11 @@ module _ (n x y : ℕ) (t : Table) (h start found : ℕ) (hh : h ≡ hashOf x y)
   found-is : found ≡ foundIn n x y t
   found-is = hf ∙ ap (seek n (t .xs) (t .ys) (t .next) x y) (hs ∙ ap (λ (k : ℕ). getD (t .buckets) k 0) hh)
 
-  pub old-node : found < nodeRoom → (found ≡ numberIn n x y t) × (t ≡ tableWith n x y t)
-  old-node f = let low : foundIn n x y t < nodeRoom = omega (arith, found-is) in (found-is ∙ sym (number-found n x y t low), sym (with-found n x y t low))
+  pub old-node : found < mostNodes → (found ≡ numberIn n x y t) × (t ≡ tableWith n x y t)
+  old-node f = let low : foundIn n x y t < mostNodes = omega (arith, found-is) in (found-is ∙ sym (number-found n x y t low), sym (with-found n x y t low))
 
-  pub no-room : nodeRoom ≤ found → nodeRoom ≤ n → (nodeRoom ≡ numberIn n x y t) × (t ≡ tableWith n x y t)
-  no-room f m = let high : nodeRoom ≤ foundIn n x y t = omega (arith, found-is) in (sym (number-full n x y t high m), sym (with-full n x y t high m))
+  pub no-room : mostNodes ≤ found → mostNodes ≤ n → (mostNodes ≡ numberIn n x y t) × (t ≡ tableWith n x y t)
+  no-room f m = let high : mostNodes ≤ foundIn n x y t = omega (arith, found-is) in (sym (number-full n x y t high m), sym (with-full n x y t high m))
 
-  pub new-node : nodeRoom ≤ found → n < nodeRoom → (t' : Table) → t' ≡ inserted n x y t → (n ≡ numberIn n x y t) × (t' ≡ tableWith n x y t)
-  new-node f m t' e = let high : nodeRoom ≤ foundIn n x y t = omega (arith, found-is) in (sym (number-new n x y t high m), e ∙ sym (with-new n x y t high m))
+  pub new-node : mostNodes ≤ found → n < mostNodes → (t' : Table) → t' ≡ inserted n x y t → (n ≡ numberIn n x y t) × (t' ≡ tableWith n x y t)
+  new-node f m t' e = let high : mostNodes ≤ foundIn n x y t = omega (arith, found-is) in (sym (number-new n x y t high m), e ∙ sym (with-new n x y t high m))

@@ -4,10 +4,7 @@ use mathlib.Core.List.{List}
 use mathlib.Core.Bool.{Bool, true, false, _&&_}
 use lib.ListN.{getD, set, replicate}
 use lib.Dec.{eqb, ltb}
-
--- the most nodes of any drawing: 1,024 points and two ends of each of 255 links
-abbrev pub nodeRoom : ℕ
-nodeRoom = 1534
+use Rattle.limits.specs.Limits.{mostNodes}
 
 -- `xs` and `ys` have the coordinates of each node. `buckets` has the newest node of each hash, `next` has for each node the next older one of its hash; 1534 is none.
 pub record Table : Type 0 where
@@ -20,7 +17,7 @@ abbrev pub table : List ℕ → List ℕ → List ℕ → List ℕ → Table
 table xs ys ns bs = record { xs = xs; ys = ys; next = ns; buckets = bs }
 
 abbrev pub noNodes : Table
-noNodes = table (replicate 1534 0) (replicate 1534 0) (replicate 1534 1534) (replicate 2039 1534)
+noNodes = table (replicate mostNodes 0) (replicate mostNodes 0) (replicate mostNodes mostNodes) (replicate 2039 mostNodes)
 
 unfoldable pub hashOf : ℕ → ℕ → ℕ
 hashOf x y = (1009 * x + y) % 2039
@@ -39,8 +36,8 @@ isAt xs ys x y i = eqb (getD xs i 0) x && eqb (getD ys i 0) y
 
 -- the node at x, y that is found from the node i on, going to the next older one at most `fuel` times; 1534 where there is none
 unfoldable pub seek : ℕ → List ℕ → List ℕ → List ℕ → ℕ → ℕ → ℕ → ℕ
-seek zero xs ys ns x y i = nodeRoom
-seek (suc fuel) xs ys ns x y i = pick (ltb i nodeRoom) (pick (isAt xs ys x y i) i (seek fuel xs ys ns x y (getD ns i 0))) nodeRoom
+seek zero xs ys ns x y i = mostNodes
+seek (suc fuel) xs ys ns x y i = pick (ltb i mostNodes) (pick (isAt xs ys x y i) i (seek fuel xs ys ns x y (getD ns i 0))) mostNodes
 
 -- among n nodes
 abbrev pub foundIn : ℕ → ℕ → ℕ → Table → ℕ
@@ -53,12 +50,12 @@ inserted n x y t = table (set (t .xs) n x) (set (t .ys) n y) (set (t .next) n (g
 -- The number of the node at x, y, which is n where it is new; 1534 where it is new and there is no room.
 unfoldable pub numberIn : ℕ → ℕ → ℕ → Table → ℕ
 unfolding seek hashOf
-numberIn n x y t = pick (ltb (foundIn n x y t) nodeRoom) (foundIn n x y t) (pick (ltb n nodeRoom) n nodeRoom)
+numberIn n x y t = pick (ltb (foundIn n x y t) mostNodes) (foundIn n x y t) (pick (ltb n mostNodes) n mostNodes)
 
 -- the table with it
 unfoldable pub tableWith : ℕ → ℕ → ℕ → Table → Table
 unfolding seek inserted
-tableWith n x y t = pickTable (ltb (foundIn n x y t) nodeRoom) t (pickTable (ltb n nodeRoom) (inserted n x y t) t)
+tableWith n x y t = pickTable (ltb (foundIn n x y t) mostNodes) t (pickTable (ltb n mostNodes) (inserted n x y t) t)
 
 -- how many nodes there are then, of which there were n
 unfoldable pub countWith : ℕ → ℕ → ℕ

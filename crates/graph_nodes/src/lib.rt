@@ -4,17 +4,12 @@
 ghost use mathlib.Core.Path.{_≡_};
 ghost use mathlib.Core.Bool.{Bool, true, false};
 ghost use Prim.Native.Nat.{_<_, _≤_};
+ghost use Rattle.limits.specs.Limits.{mostNodes};
 ghost use Rattle.graph_nodes.specs.Table.{table, hashOf, isAt, seek, inserted, numberIn, tableWith, countWith};
 use limits::MOST_NODES;
 
 // A prime, so that hashes spread.
 pub const BUCKETS: usize = 2039;
-
-fn wide(x: u16) -> usize
-    ensures { λ r. ⌜ r ≡ x ⌝ }
-{
-    x as usize
-}
 
 fn widened(x: u32) -> usize
     ensures { λ r. ⌜ (r ≡ x) × (r < 4294967296) ⌝ }
@@ -34,7 +29,7 @@ fn hash(x: u32, y: u32) -> usize
 
 // Whether node i is at x, y.
 fn is_at(xs: &[u32; MOST_NODES], ys: &[u32; MOST_NODES], x: u32, y: u32, i: usize) -> bool
-    requires { ⌜ i < 1534 ⌝ }
+    requires { ⌜ i < mostNodes ⌝ }
     ensures { λ r. ⌜ r ≡ isAt (now (xs .entry)) (now (ys .entry)) x y i ⌝ }
 {
     let px = xs[i];
@@ -67,7 +62,7 @@ fn find_node(
         if at {
             return i;
         }
-        i = wide(next[i]);
+        i = widen::wide(next[i]);
         left -= 1;
     }
     MOST_NODES
@@ -83,7 +78,7 @@ fn insert(
     y: u32,
     n: usize,
 )
-    requires { ⌜ n < 1534 ⌝ }
+    requires { ⌜ n < mostNodes ⌝ }
     ensures { λ _. ⌜ table (now (xs .exit)) (now (ys .exit)) (now (next .exit)) (now (buckets .exit)) ≡ inserted n x y (table (now (xs .entry)) (now (ys .entry)) (now (next .entry)) (now (buckets .entry))) ⌝ }
 {
     let bucket = hash(x, y);
@@ -108,7 +103,7 @@ pub fn get_or_insert(
     ensures nodes { λ _. ⌜ table (now (xs .exit)) (now (ys .exit)) (now (next .exit)) (now (buckets .exit)) ≡ tableWith n x y (table (now (xs .entry)) (now (ys .entry)) (now (next .entry)) (now (buckets .entry))) ⌝ }
 {
     let bucket = hash(x, y);
-    let start = wide(buckets[bucket]);
+    let start = widen::wide(buckets[bucket]);
     let found = find_node(xs, ys, next, x, y, start, n);
     if found < MOST_NODES {
         return found;
@@ -122,7 +117,7 @@ pub fn get_or_insert(
 
 // The number of nodes with the one whose number was got, of which there were n.
 pub fn count_with(n: usize, number: usize) -> usize
-    requires { ⌜ n ≤ 1534 ⌝ }
+    requires { ⌜ n ≤ mostNodes ⌝ }
     ensures { λ r. ⌜ r ≡ countWith n number ⌝ }
 {
     if number == n {

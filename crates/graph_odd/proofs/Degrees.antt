@@ -9,12 +9,12 @@ use native.Mathlib.Omega.{arith}
 use lib.ListN.{length, getD, replicate, length-set, length-replicate, drop, drop-of-length-le}
 use lib.Seq.{getD-set-same, getD-set-other, drop-cons}
 use lib.Ieee.{nan}
+use Rattle.limits.specs.Limits.{mostNodes, edgeRoom}
 use Rattle.drawing_spec.proofs.Members.{getD-same, set-cases}
 use Rattle.graph_spec.specs.Graph.{Edge, edge}
 use Rattle.graph_spec.specs.Degree.{hit, degree}
 use Rattle.graph_spec.proofs.Sums.{hit-same, hit-other, hit-le}
 use Rattle.graph_spec.proofs.EdgesAt.{edgeAt}
-use Rattle.graph_adjacency.specs.Lists.{edgeRoom, nodeRoom}
 use Rattle.graph_edge_arrays.specs.Held.{EndsHeld}
 use Rattle.graph_edge_arrays.proofs.Held.{first-end, second-end, ends-below}
 use Rattle.graph_odd.specs.Degrees.{Countable, Degrees, EndsBelow, bump, bumped}
@@ -40,16 +40,16 @@ bumped-at ds u v w hu hv =
 -- after i edges
 pub record Counted (m i : ℕ) (ends ds : List ℕ) : Type 0 where
   pub on : i ≤ m
-  pub long : length ds ≡ nodeRoom
+  pub long : length ds ≡ mostNodes
   pub small : (v : ℕ) → getD ds v 0 ≤ 2 * i
   pub rest : (n : ℕ) (es : List Edge) → EndsHeld n es ends → length es ≡ m → (v : ℕ) → getD ds v 0 + degree (drop i es) v ≡ degree es v
 
-pub counted-start : (m : ℕ) (ends ds : List ℕ) → ds ≡ replicate nodeRoom 0 → Counted m 0 ends ds
+pub counted-start : (m : ℕ) (ends ds : List ℕ) → ds ≡ replicate mostNodes 0 → Counted m 0 ends ds
 counted-start m ends ds e =
-    let none : (v : ℕ) → getD ds v 0 ≡ 0 = λ v. ap (λ (q : List ℕ). getD q v 0) e ∙ getD-same nodeRoom v 0 in
+    let none : (v : ℕ) → getD ds v 0 ≡ 0 = λ v. ap (λ (q : List ℕ). getD q v 0) e ∙ getD-same mostNodes v 0 in
     record {
       on = omega arith;
-      long = ap (λ (q : List ℕ). length q) e ∙ length-replicate {A = ℕ} nodeRoom 0;
+      long = ap (λ (q : List ℕ). length q) e ∙ length-replicate {A = ℕ} mostNodes 0;
       small = λ v. omega (arith, none v);
       rest = λ n es H l v. omega (arith, none v);
     }

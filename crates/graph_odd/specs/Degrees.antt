@@ -3,20 +3,20 @@ use mathlib.Core.Path.{_≡_}
 use mathlib.Core.List.{List}
 use Prim.Native.Nat.{ℕ, _+_, _*_, _≤_, _<_}
 use lib.ListN.{length, getD, set}
+use Rattle.limits.specs.Limits.{mostNodes, edgeRoom}
 use Rattle.graph_spec.specs.Graph.{Edge}
 use Rattle.graph_spec.specs.Degree.{degree}
-use Rattle.graph_adjacency.specs.Lists.{edgeRoom, nodeRoom}
 use Rattle.graph_edge_arrays.specs.Held.{EndsHeld}
 
 -- the ends of the first m edges are nodes
 abbrev pub EndsBelow : ℕ → List ℕ → Type 0
-EndsBelow m ends = (j : ℕ) → j < m → (getD ends j 0 < nodeRoom) × (getD ends (j + edgeRoom) 0 < nodeRoom)
+EndsBelow m ends = (j : ℕ) → j < m → (getD ends j 0 < mostNodes) × (getD ends (j + edgeRoom) 0 < mostNodes)
 
 -- the edge i has nodes as its ends, and no degree is near the largest number
 pub record Countable (i : ℕ) (ends ds : List ℕ) : Type 0 where
   pub room : i < edgeRoom
-  pub first : getD ends i 0 < nodeRoom
-  pub second : getD ends (i + edgeRoom) 0 < nodeRoom
+  pub first : getD ends i 0 < mostNodes
+  pub second : getD ends (i + edgeRoom) 0 < mostNodes
   pub small : (v : ℕ) → getD ds v 0 ≤ 2 * edgeRoom
 
 -- one more at v

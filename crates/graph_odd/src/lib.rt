@@ -4,6 +4,7 @@ ghost use mathlib.Core.List.{List};
 ghost use Prim.Native.Nat.{_+_, _≤_};
 ghost use lib.ListN.{length, getD, replicate};
 ghost use lib.Seq.{sets};
+ghost use Rattle.limits.specs.Limits.{mostNodes, edgeRoom};
 ghost use Rattle.graph_spec.specs.Graph.{Edge};
 ghost use Rattle.graph_spec.specs.Degree.{oddNodes};
 ghost use Rattle.graph_edge_arrays.specs.Held.{EndsHeld};
@@ -11,28 +12,22 @@ ghost use Rattle.graph_odd.specs.Degrees.{EndsBelow, Countable, bumped, 
 use limits::EDGE_ROOM;
 use limits::MOST_NODES;
 
-fn wide(x: u16) -> usize
-    ensures { λ r. ⌜ r ≡ x ⌝ }
-{
-    x as usize
-}
-
 // One more at both ends of the edge i.
 fn count_edge(ends: &[u16; 2 * EDGE_ROOM], degrees: &mut [u16; MOST_NODES], i: usize)
     requires { ⌜ Countable i (now ends) (now degrees) ⌝ }
-    ensures { λ _. ⌜ now (degrees .exit) ≡ bumped (now (degrees .entry)) (getD (now (ends .entry)) i 0) (getD (now (ends .entry)) (i + 4001) 0) ⌝ }
+    ensures { λ _. ⌜ now (degrees .exit) ≡ bumped (now (degrees .entry)) (getD (now (ends .entry)) i 0) (getD (now (ends .entry)) (i + edgeRoom) 0) ⌝ }
 {
-    let u = wide(ends[i]);
-    let v = wide(ends[i + EDGE_ROOM]);
+    let u = widen::wide(ends[i]);
+    let v = widen::wide(ends[i + EDGE_ROOM]);
     degrees[u] += 1;
     degrees[v] += 1;
 }
 
 // The degree of each node, by the first m edges.
 fn count_degrees(ends: &[u16; 2 * EDGE_ROOM], degrees: &mut [u16; MOST_NODES], m: usize)
-    requires room { ⌜ m ≤ 4001 ⌝ }
+    requires room { ⌜ m ≤ edgeRoom ⌝ }
     requires nodes { ⌜ EndsBelow m (now ends) ⌝ }
-    requires none { ⌜ now degrees ≡ replicate 1534 0 ⌝ }
+    requires none { ⌜ now degrees ≡ replicate mostNodes 0 ⌝ }
     ensures { λ _. ⌜ Degrees m (now (ends .entry)) (now (degrees .exit)) ⌝ }
 {
     let mut i: usize = 0;
@@ -49,7 +44,7 @@ pub fn odd_nodes(
     n: usize,
     m: usize,
 ) -> usize
-    requires room { ⌜ (n ≤ 1534) × (m ≤ 4001) ⌝ }
+    requires room { ⌜ (n ≤ mostNodes) × (m ≤ edgeRoom) ⌝ }
     requires nodes { ⌜ EndsBelow m (now ends) ⌝ }
     ensures { λ r. ⌜ ((es : List Edge) → EndsHeld n es (now (ends .entry)) → length es ≡ m → (now (odd .exit) ≡ sets (now (odd .entry)) 0 (oddNodes n es)) × (r ≡ length (oddNodes n es))) ⌝ }
 {

@@ -5,13 +5,14 @@ use mathlib.Core.List.{List, [], _∷_, map}
 use Prim.Native.Nat.{ℕ, _-_, _≤_, _<_}
 use native.Mathlib.Omega.{arith}
 use lib.ListN.{getD}
+use Rattle.limits.specs.Limits.{mostNodes}
 use Rattle.drawing_spec.specs.Members.{In}
 use Rattle.drawing_spec.proofs.Members.{in-all}
 use Rattle.graph_spec.specs.Graph.{Edge, Arc, edgesAt}
 use Rattle.graph_spec.specs.Ways.{Joins, Joined}
 use Rattle.graph_spec.proofs.Connected.{joins-inside}
 use Rattle.graph_spec.proofs.EdgesAt.{edgeAt, number-of, edgesAt-all, edgesAt-arc, arc-joins}
-use Rattle.graph_adjacency.specs.Lists.{Adjacency, nodeRoom, firstArc, nextArc, arcAt, lists}
+use Rattle.graph_adjacency.specs.Lists.{Adjacency, firstArc, nextArc, arcAt, lists}
 use Rattle.graph_adjacency.specs.Follow.{Follows}
 use Rattle.graph_adjacency.proofs.Follow.{follows-none, follows-arc, follows-next, lists-follow}
 use Rattle.graph_edge_arrays.specs.Held.{Held}
@@ -49,10 +50,10 @@ module _ (ends next heads : List ℕ) (v : ℕ) where
 
   module _ (k₀ : ℕ) (s₀ : Marks) (k : ℕ) (s : Marks) (some : 0 < k) where
     -- the arc can be read, and leads to a node
-    pub going-arc : Going ends next heads v k₀ s₀ k s → (k ≤ 8002) × (getD ends (k - 1) 0 < nodeRoom) × (nextArc next heads v k < k)
+    pub going-arc : Going ends next heads v k₀ s₀ k s → (k ≤ 8002) × (getD ends (k - 1) 0 < mostNodes) × (nextArc next heads v k < k)
     going-arc g = go (g .rest) (g .leads) (g .nodes)
       where
-        go : (ws : List ℕ) → Leads ends next heads v k ws → Nodes ws → (k ≤ 8002) × (getD ends (k - 1) 0 < nodeRoom) × (nextArc next heads v k < k)
+        go : (ws : List ℕ) → Leads ends next heads v k ws → Nodes ws → (k ≤ 8002) × (getD ends (k - 1) 0 < mostNodes) × (nextArc next heads v k < k)
         go [] l a = absurd (omega (arith, l))
         go (w ∷ ws) l a = (l .0 .within, omega (arith, l .0 .to, a .0), l .0 .falls)
 
@@ -64,7 +65,7 @@ module _ (ends next heads : List ℕ) (v : ℕ) where
         go [] l a e = absurd (omega (arith, l))
         go (x ∷ ws) l a e =
             let is : w ≡ x = hw ∙ l .0 .to in
-            let here : w < nodeRoom = omega (arith, a .0) in
+            let here : w < mostNodes = omega (arith, a .0) in
             rw (hk, hs) (record {
               all = g .all;
               all-leads = g .all-leads;
@@ -127,11 +128,11 @@ target-joined es v w i =
     subst (λ (z : ℕ). Joined es v z) (r .2) (arc-joins es v (r .0) (r .1) .0)
 
 module _ (n : ℕ) (es : List Edge) (ends next heads : List ℕ) (H : Held n es ends next heads) (v : ℕ) where
-  pub held-leads : v < nodeRoom → Leads ends next heads v (firstArc heads v) (targetsOf es v)
+  pub held-leads : v < mostNodes → Leads ends next heads v (firstArc heads v) (targetsOf es v)
   held-leads h =
       let f = lists-follow es v (H .by-ends .few) (inside-ends n es (H .by-ends .room) (H .by-ends .inside)) h in
       let l = follows-leads (lists es) v (firstArc (lists es .heads) v) (edgesAt es v) f in
       rw (H .by-ends .ends-are, H .next-are, H .heads-are) at l
 
   pub held-nodes : Nodes (targetsOf es v)
-  held-nodes = in-all (λ (w : ℕ). w < nodeRoom) (targetsOf es v) (λ w i. let k = target-joined es v w i in omega (arith, joins-inside n es (H .by-ends .inside) (k .by) v w (k .isIn) (k .joins), H .by-ends .room))
+  held-nodes = in-all (λ (w : ℕ). w < mostNodes) (targetsOf es v) (λ w i. let k = target-joined es v w i in omega (arith, joins-inside n es (H .by-ends .inside) (k .by) v w (k .isIn) (k .joins), H .by-ends .room))

@@ -9,9 +9,9 @@ use native.Mathlib.Decide.{ℕ-discrete}
 use native.Mathlib.Omega.{arith}
 use lib.ListN.{length, getD, set, length-set, List·getD-eq-default}
 use lib.Seq.{getD-set-same, getD-set-other}
+use Rattle.limits.specs.Limits.{mostNodes}
 use Rattle.drawing_spec.specs.Members.{In}
 use Rattle.drawing_spec.proofs.Members.{set-cases}
-use Rattle.graph_adjacency.specs.Lists.{nodeRoom}
 use Rattle.graph_reach.specs.Marks.{Marked, Marks, Nodes, Tidy, free, markAll, marking, pickMarks, with}
 
 module _ (v : ℕ) (s : Marks) where
@@ -40,19 +40,19 @@ free-set (true ∷ ms) (suc v) h e = free-set ms v (le-of-suc-le-suc h) e
 free-set (false ∷ ms) (suc v) h e = ap suc (free-set ms v (le-of-suc-le-suc h) e)
 
 -- a marked node is a node
-pub marked-below : (s : Marks) → Tidy s → (v : ℕ) → Marked s v → v < nodeRoom
+pub marked-below : (s : Marks) → Tidy s → (v : ℕ) → Marked s v → v < mostNodes
 marked-below s t v m = lt-of-not-le (λ l. false≢true (sym (List·getD-eq-default (s .marked) false (past l)) ∙ m))
   where
-    past : nodeRoom ≤ v → length (s .marked) ≤ v
+    past : mostNodes ≤ v → length (s .marked) ≤ v
     past l = omega (arith, t .marked-long)
 
-pub room-for : (s : Marks) → Tidy s → (v : ℕ) → v < nodeRoom → getD (s .marked) v false ≡ false → s .tail < nodeRoom
+pub room-for : (s : Marks) → Tidy s → (v : ℕ) → v < mostNodes → getD (s .marked) v false ≡ false → s .tail < mostNodes
 room-for s t v h e = omega (arith, t .room, free-set (s .marked) v (omega (arith, t .marked-long)) e)
 
 set-keeps : (ms : List Bool) (u v : ℕ) → getD ms v false ≡ true → getD (set ms u true) v false ≡ true
 set-keeps ms u v m = elim (set-cases ms u true false v) [ inl p ↦ p .1 | inr e ↦ e ∙ m ]
 
-module _ (s : Marks) (t : Tidy s) (v : ℕ) (h : v < nodeRoom) where
+module _ (s : Marks) (t : Tidy s) (v : ℕ) (h : v < mostNodes) where
   new-marked : Marked (with v s) v
   new-marked = getD-set-same (s .marked) v true false (omega (arith, t .marked-long))
 
@@ -115,7 +115,7 @@ grown-on r s t g h = record {
   ];
 }
 
-marking-grown : (s : Marks) → Tidy s → (v : ℕ) → v < nodeRoom → Grown s (marking v s)
+marking-grown : (s : Marks) → Tidy s → (v : ℕ) → v < mostNodes → Grown s (marking v s)
 marking-grown s t v h = marking-case v s (Grown s) (λ m. grown-none s) new
   where
     new : getD (s .marked) v false ≡ false → Grown s (with v s)

@@ -7,13 +7,14 @@ use Prim.Native.Nat.{ℕ, _+_, _≤_, _<_}
 use native.Mathlib.Decide.{ℕ-discrete}
 use native.Mathlib.Omega.{arith}
 use lib.ListN.{getD, set, replicate, length-set, length-replicate}
+use Rattle.limits.specs.Limits.{mostNodes}
 use Rattle.drawing_spec.specs.Members.{In}
 use Rattle.drawing_spec.proofs.Members.{set-cases, getD-same}
 use Rattle.graph_spec.specs.Graph.{Edge}
 use Rattle.graph_spec.specs.Ways.{Joined, Reach, here, on}
 use Rattle.graph_spec.specs.Reach.{allReached}
 use Rattle.graph_spec.proofs.Reached.{reached-all, all-reached}
-use Rattle.graph_adjacency.specs.Lists.{nodeRoom, firstArc}
+use Rattle.graph_adjacency.specs.Lists.{firstArc}
 use Rattle.graph_edge_arrays.specs.Held.{Held, Holding}
 use Rattle.graph_reach.specs.Marks.{Marks, marks, Marked, markAll, free, Tidy, Nodes}
 use Rattle.graph_reach.proofs.Marks.{marked-below, Waits, waits-on, Grown, tidy-all, grown-all, all-marks, all-only}
@@ -101,7 +102,7 @@ module _ (n : ℕ) (ends next heads : List ℕ) where
   module _ (s : Marks) (head v : ℕ) (h : head < s .tail) (first : v ≡ getD (s .queue) head 0) (p : Walking n ends next heads s head) where
     pub walking-ready : Holding n ends next heads → Ready ends next heads s v
     walking-ready k =
-        let below : v < nodeRoom = marked-below s (p .tidy) v (subst (λ (w : ℕ). Marked s w) (sym first) (p .tidy .queued head h)) in
+        let below : v < mostNodes = marked-below s (p .tidy) v (subst (λ (w : ℕ). Marked s w) (sym first) (p .tidy .queued head h)) in
         record {
           node = below;
           tidy = p .tidy;

@@ -4,8 +4,8 @@ use mathlib.Core.List.{List, [], _∷_}
 use mathlib.Core.Bool.{Bool, true, false}
 use Prim.Native.Nat.{ℕ, suc, _+_, _≤_, _<_}
 use lib.ListN.{length, getD, set}
+use Rattle.limits.specs.Limits.{mostNodes}
 use Rattle.drawing_spec.specs.Members.{All}
-use Rattle.graph_adjacency.specs.Lists.{nodeRoom}
 
 -- which nodes are marked, the nodes in the order in which they were, and how many of these there are
 pub record Marks : Type 0 where
@@ -44,12 +44,12 @@ free (true ∷ ms) = free ms
 free (false ∷ ms) = suc (free ms)
 
 pub record Tidy (s : Marks) : Type 0 where
-  pub marked-long : length (s .marked) ≡ nodeRoom
-  pub queue-long : length (s .queue) ≡ nodeRoom
-  pub room : s .tail + free (s .marked) ≤ nodeRoom
+  pub marked-long : length (s .marked) ≡ mostNodes
+  pub queue-long : length (s .queue) ≡ mostNodes
+  pub room : s .tail + free (s .marked) ≤ mostNodes
   pub queued : (j : ℕ) → j < s .tail → Marked s (getD (s .queue) j 0)
 
 -- ---- several nodes
 
 abbrev pub Nodes : List ℕ → Type 0
-Nodes ws = All (λ (w : ℕ). w < nodeRoom) ws
+Nodes ws = All (λ (w : ℕ). w < mostNodes) ws

@@ -3,6 +3,7 @@
 ghost use mathlib.Core.Path.{_≡_};
 ghost use mathlib.Core.List.{List};
 ghost use Prim.Native.Nat.{ℕ, _<_, _≤_};
+ghost use Rattle.limits.specs.Limits.{mostNodes};
 ghost use Rattle.graph_spec.specs.Graph.{Edge};
 ghost use Rattle.graph_spec.specs.Reach.{allReached};
 ghost use Rattle.graph_adjacency.specs.Lists.{firstArc};
@@ -13,12 +14,6 @@ ghost use Rattle.graph_reach.specs.Spread.{Tells};
 use limits::EDGE_ROOM;
 use limits::MOST_NODES;
 
-fn wide(x: u16) -> usize
-    ensures { λ r. ⌜ r ≡ x ⌝ }
-{
-    x as usize
-}
-
 // Marks v, and puts it last in the queue, unless it is marked already; the answer is the queue's length.
 fn mark(
     marked: &mut [bool; MOST_NODES],
@@ -26,7 +21,7 @@ fn mark(
     tail: usize,
     v: usize,
 ) -> usize
-    requires node { ⌜ v < 1534 ⌝ }
+    requires node { ⌜ v < mostNodes ⌝ }
     requires tidy { ⌜ Tidy (marks (now marked) (now queue) tail) ⌝ }
     ensures { λ r. ⌜ marks (now (marked .exit)) (now (queue .exit)) r ≡ marking v (marks (now (marked .entry)) (now (queue .entry)) tail) ⌝ }
 {
@@ -54,7 +49,7 @@ fn mark_neighbours(
     let mut end = tail;
     let mut k = graph_adjacency::first_arc(heads, v);
     while 0 < k {
-        let w = wide(ends[k - 1]);
+        let w = widen::wide(ends[k - 1]);
         end = mark(marked, queue, end, w);
         k = graph_adjacency::next_arc(next, heads, v, k);
     }
@@ -63,7 +58,7 @@ fn mark_neighbours(
 
 // Whether the first n nodes are marked.
 fn all_marked(marked: &[bool; MOST_NODES], n: usize) -> bool
-    requires { ⌜ n ≤ 1534 ⌝ }
+    requires { ⌜ n ≤ mostNodes ⌝ }
     ensures { λ r. ⌜ Tells n (now (marked .entry)) r ⌝ }
 {
     let mut v: usize = 0;
@@ -92,7 +87,7 @@ pub fn all_reached(
     let mut head: usize = 0;
     let mut tail: usize = 1;
     while head < tail {
-        let v = wide(queue[head]);
+        let v = widen::wide(queue[head]);
         tail = mark_neighbours(ends, next, heads, &mut marked, &mut queue, tail, v);
         head += 1;
     }

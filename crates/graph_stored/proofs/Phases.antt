@@ -7,8 +7,8 @@ use lib.ListN.{length, getD, replicate, length-map, List·getD-map}
 use lib.Seq.{sets}
 use Rattle.drawing_spec.specs.Drawing.{Point, Settings, inside}
 use Rattle.graph_spec.specs.Graph.{Edge, pointAt}
-use Rattle.limits.specs.Limits.{mostSide}
-use Rattle.graph_adjacency.specs.Lists.{Adjacency, nodeRoom}
+use Rattle.limits.specs.Limits.{mostSide, mostNodes}
+use Rattle.graph_adjacency.specs.Lists.{Adjacency}
 use Rattle.graph_edge_arrays.specs.Held as arrays
 use Rattle.graph_edge_arrays.proofs.Held as arrays-law
 use Rattle.graph_odd.specs.Degrees.{EndsBelow}
@@ -26,7 +26,7 @@ use Rattle.graph_stored.specs.Stored.{NodesHeld, EdgesHeld}
 
 -- ---- of the edges alone
 
-module _ (n : ℕ) (room : n ≤ nodeRoom) (es : List Edge) (m : ℕ) where
+module _ (n : ℕ) (room : n ≤ mostNodes) (es : List Edge) (m : ℕ) where
   module _ (a : Adjacency) (E : EdgesHeld n es a m) where
     short : length es ≤ 4001
     short = omega (arith, E .count, E .few)
@@ -72,7 +72,7 @@ module _ (n : ℕ) (room : n ≤ nodeRoom) (es : List Edge) (m : ℕ) where
 -- ---- of the nodes alone
 
 module _ (ns : List Point) (xs ys : List ℕ) (n : ℕ) (N : NodesHeld ns xs ys n) where
-  fits : length ns ≤ nodeRoom
+  fits : length ns ≤ mostNodes
   fits = omega (arith, N .count, N .room)
 
   -- the nearest pairs (crates/greedy)

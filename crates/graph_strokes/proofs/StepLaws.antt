@@ -7,11 +7,12 @@ use native.Mathlib.Omega.{arith}
 use lib.ListN.{length, length-append}
 use lib.Dec.{ltb}
 use borrow.Author.Tests.{lt-ltb, le-ltb, ltb-true, ltb-false}
+use Rattle.limits.specs.Limits.{mostNodes}
 use Rattle.drawing_spec.specs.Drawing.{Point}
 use Rattle.graph_spec.specs.Chain.{pieces}
 use Rattle.graph_spec.specs.Graph.{Edge, edgeOf, find, nodeOf, getOrInsert}
 use Rattle.graph_spec.proofs.Nodes.{front, behind}
-use Rattle.graph_nodes.specs.Table.{Table, noNodes, nodeRoom, numberIn, tableWith, countWith}
+use Rattle.graph_nodes.specs.Table.{Table, noNodes, numberIn, tableWith, countWith}
 use Rattle.graph_nodes.specs.Held.{Held}
 use Rattle.graph_nodes.proofs.Held.{held-none, get-or-insert, counted}
 use Rattle.graph_adjacency.specs.Lists.{Adjacency, noEdges, lists}
@@ -30,16 +31,16 @@ begin-is q s v hv t' ht n' hn =
 -- ---- the ways through the code
 
 module _ (p q : Point) (s : Traced) (v : ℕ) (hv : v ≡ numberIn (s .nodeCount) (q .x) (q .y) (s .table)) (t' : Table) (ht : t' ≡ tableWith (s .nodeCount) (q .x) (q .y) (s .table)) where
-  pub step-full : nodeRoom ≤ v → traced t' (s .edges) (s .nodeCount) (s .edgeCount) v ≡ stepped p q s
+  pub step-full : mostNodes ≤ v → traced t' (s .edges) (s .nodeCount) (s .edgeCount) v ≡ stepped p q s
   unfolding stepped
   step-full h =
       let w = numberIn (s .nodeCount) (q .x) (q .y) (s .table) in
       let d = drawn (s .edgeCount) (s .node) w p q (s .edges) in
       let u = tableWith (s .nodeCount) (q .x) (q .y) (s .table) in
       ap (λ (a : Table). traced a (s .edges) (s .nodeCount) (s .edgeCount) v) ht ∙ ap (traced u (s .edges) (s .nodeCount) (s .edgeCount)) hv
-      ∙ sym (ap (λ (b : Bool). pickTraced b (traced u (d .edges) (countWith (s .nodeCount) w) (d .count) w) (traced u (s .edges) (s .nodeCount) (s .edgeCount) w)) (le-ltb w nodeRoom (subst (λ (k : ℕ). nodeRoom ≤ k) hv h)))
+      ∙ sym (ap (λ (b : Bool). pickTraced b (traced u (d .edges) (countWith (s .nodeCount) w) (d .count) w) (traced u (s .edges) (s .nodeCount) (s .edgeCount) w)) (le-ltb w mostNodes (subst (λ (k : ℕ). mostNodes ≤ k) hv h)))
 
-  pub step-drawn : v < nodeRoom → (n' m' : ℕ) (g' : Adjacency) → n' ≡ countWith (s .nodeCount) v → drawnAs m' g' ≡ drawn (s .edgeCount) (s .node) v p q (s .edges)
+  pub step-drawn : v < mostNodes → (n' m' : ℕ) (g' : Adjacency) → n' ≡ countWith (s .nodeCount) v → drawnAs m' g' ≡ drawn (s .edgeCount) (s .node) v p q (s .edges)
       → traced t' g' n' m' v ≡ stepped p q s
   unfolding stepped
   step-drawn h n' m' g' hn hd =
@@ -49,7 +50,7 @@ module _ (p q : Point) (s : Traced) (v : ℕ) (hv : v ≡ numberIn (s .nodeCount
       let hd' : drawnAs m' g' ≡ d = hd ∙ ap (λ (k : ℕ). drawn (s .edgeCount) (s .node) k p q (s .edges)) hv in
       ap (λ (a : Table). traced a g' n' m' v) ht ∙ ap (λ (a : Drawn). traced u (a .edges) n' (a .count) v) hd'
       ∙ ap (λ (k : ℕ). traced u (d .edges) k (d .count) v) (hn ∙ ap (countWith (s .nodeCount)) hv) ∙ ap (traced u (d .edges) (countWith (s .nodeCount) w) (d .count)) hv
-      ∙ sym (ap (λ (b : Bool). pickTraced b (traced u (d .edges) (countWith (s .nodeCount) w) (d .count) w) (traced u (s .edges) (s .nodeCount) (s .edgeCount) w)) (lt-ltb w nodeRoom (subst (λ (k : ℕ). k < nodeRoom) hv h)))
+      ∙ sym (ap (λ (b : Bool). pickTraced b (traced u (d .edges) (countWith (s .nodeCount) w) (d .count) w) (traced u (s .edges) (s .nodeCount) (s .edgeCount) w)) (lt-ltb w mostNodes (subst (λ (k : ℕ). k < mostNodes) hv h)))
 
 -- the point is a node then
 node-got : (ns : List Point) (q : Point) → nodeOf (getOrInsert ns q) q < length (getOrInsert ns q)
@@ -69,7 +70,7 @@ node-kept ns p q h = go (ltb (nodeOf ns q) (length ns))
     go true = refl
     go false = front ns (q ∷ []) p h
 
-pub step-traced : (ns : List Point) (es : List Edge) (p q : Point) (s : Traced) → TracedTo ns es p s → nodeOf ns p < length ns → length (getOrInsert ns q) ≤ nodeRoom
+pub step-traced : (ns : List Point) (es : List Edge) (p q : Point) (s : Traced) → TracedTo ns es p s → nodeOf ns p < length ns → length (getOrInsert ns q) ≤ mostNodes
     → TracedTo (getOrInsert ns q) (es ++ map (edgeOf (getOrInsert ns q)) (pieces p (q ∷ []))) q (stepped p q s)
 step-traced ns es p q s T h room =
     let ns' = getOrInsert ns q in
@@ -77,7 +78,7 @@ step-traced ns es p q s T h room =
     let v = numberIn (s .nodeCount) (q .x) (q .y) (s .table) in
     let got = get-or-insert (s .table) ns q (T .nodes-held) room in
     let is : v ≡ nodeOf ns' q = ap (λ (n : ℕ). numberIn n (q .x) (q .y) (s .table)) (T .nodes-counted) ∙ got .0 in
-    let low : v < nodeRoom = omega (arith, is, node-got ns q) in
+    let low : v < mostNodes = omega (arith, is, node-got ns q) in
     let held : Held (tableWith (s .nodeCount) (q .x) (q .y) (s .table)) ns' =
     subst (λ (n : ℕ). Held (tableWith n (q .x) (q .y) (s .table)) ns') (sym (T .nodes-counted)) (got .1) in
     let drew : drawn (s .edgeCount) (s .node) v p q (s .edges) ≡ drawnAs (length es') (lists es') =
@@ -91,7 +92,7 @@ step-traced ns es p q s T h room =
     (record { nodes-held = held; nodes-counted = count; edges-held = refl; edges-counted = refl; node-is = is })
 
 -- where the walk begins anew, it is at the next point's node, with the same edges
-pub begin-traced : (ns : List Point) (es : List Edge) (p q : Point) (s : Traced) → TracedTo ns es p s → length (getOrInsert ns q) ≤ nodeRoom → TracedTo (getOrInsert ns q) es q (begun q s)
+pub begin-traced : (ns : List Point) (es : List Edge) (p q : Point) (s : Traced) → TracedTo ns es p s → length (getOrInsert ns q) ≤ mostNodes → TracedTo (getOrInsert ns q) es q (begun q s)
 unfolding begun
 begin-traced ns es p q s T room =
     let v = numberIn (s .nodeCount) (q .x) (q .y) (s .table) in

@@ -5,9 +5,10 @@ use mathlib.Core.List.{List}
 use Prim.Native.Nat.{ℕ}
 use lib.ListN.{length}
 use lib.Dec.{ltb}
+use Rattle.limits.specs.Limits.{mostNodes}
 use Rattle.drawing_spec.specs.Drawing.{Point}
 use Rattle.graph_spec.specs.Graph.{Edge, nodeOf}
-use Rattle.graph_nodes.specs.Table.{Table, nodeRoom, numberIn, tableWith, countWith}
+use Rattle.graph_nodes.specs.Table.{Table, numberIn, tableWith, countWith}
 use Rattle.graph_nodes.specs.Held.{Held}
 use Rattle.graph_adjacency.specs.Lists.{Adjacency, lists}
 use Rattle.graph_strokes.specs.Trace.{drawn}
@@ -32,7 +33,7 @@ unfoldable pub stepped : Point → Point → Traced → Traced
 stepped p q s =
     let v = numberIn (s .nodeCount) (q .x) (q .y) (s .table) in
     let d = drawn (s .edgeCount) (s .node) v p q (s .edges) in
-    pickTraced (ltb v nodeRoom)
+    pickTraced (ltb v mostNodes)
     (traced (tableWith (s .nodeCount) (q .x) (q .y) (s .table)) (d .edges) (countWith (s .nodeCount) v) (d .count) v)
     (traced (tableWith (s .nodeCount) (q .x) (q .y) (s .table)) (s .edges) (s .nodeCount) (s .edgeCount) v)
 

@@ -1,6 +1,7 @@
 // A stroke of a drawing, from one point to another: its edge, unless the two are one point.
 ghost use mathlib.Core.Path.{_≡_};
 ghost use Prim.Native.Nat.{ℕ, _<_, _≤_, _^_};
+ghost use Rattle.limits.specs.Limits.{mostNodes, edgeRoom};
 ghost use Rattle.graph_splits.specs.Next.{at};
 ghost use Rattle.graph_adjacency.specs.Lists.{Adjacency, adjacency};
 ghost use Rattle.graph_strokes.specs.Trace.{drawn, drawnAs};
@@ -25,7 +26,7 @@ pub fn draw(
     qx: u32,
     qy: u32,
 ) -> usize
-    requires room { ⌜ (m < 4001) × (u < 1534) × (v < 1534) ⌝ }
+    requires room { ⌜ (m < edgeRoom) × (u < mostNodes) × (v < mostNodes) ⌝ }
     requires places { ⌜ (px ≤ 2 ^ 24) × (py ≤ 2 ^ 24) × (qx ≤ 2 ^ 24) × (qy ≤ 2 ^ 24) ⌝ }
     ensures { λ r. ⌜ drawnAs r (adjacency (now (ends .exit)) (now (weights .exit)) (now (next .exit)) (now (heads .exit))) ≡ drawn m u v (at px py) (at qx qy) (adjacency (now (ends .entry)) (now (weights .entry)) (now (next .entry)) (now (heads .entry))) ⌝ }
 {
@@ -65,7 +66,7 @@ pub fn step(
     qx: u32,
     qy: u32,
 ) -> Trail
-    requires room { ⌜ (n ≤ 1534) × (m < 4001) × (u < 1534) ⌝ }
+    requires room { ⌜ (n ≤ mostNodes) × (m < edgeRoom) × (u < mostNodes) ⌝ }
     requires places { ⌜ (px ≤ 2 ^ 24) × (py ≤ 2 ^ 24) × (qx ≤ 2 ^ 24) × (qy ≤ 2 ^ 24) ⌝ }
     ensures { λ r. ⌜ traced (table (now (xs .exit)) (now (ys .exit)) (now (older .exit)) (now (buckets .exit))) (adjacency (now (ends .exit)) (now (weights .exit)) (now (next .exit)) (now (heads .exit))) (r .nodes) (r .edges) (r .node) ≡ stepped (at px py) (at qx qy) (traced (table (now (xs .entry)) (now (ys .entry)) (now (older .entry)) (now (buckets .entry))) (adjacency (now (ends .entry)) (now (weights .entry)) (now (next .entry)) (now (heads .entry))) n m u) ⌝ }
 {
@@ -98,7 +99,7 @@ pub fn begin(
     qx: u32,
     qy: u32,
 ) -> Trail
-    requires { ⌜ n ≤ 1534 ⌝ }
+    requires { ⌜ n ≤ mostNodes ⌝ }
     ensures { λ r. ⌜ ((g : Adjacency) (u : ℕ) → traced (table (now (xs .exit)) (now (ys .exit)) (now (older .exit)) (now (buckets .exit))) g (r .nodes) (r .edges) (r .node) ≡ begun (at qx qy) (traced (table (now (xs .entry)) (now (ys .entry)) (now (older .entry)) (now (buckets .entry))) g n m u)) ⌝ }
 {
     let node = graph_nodes::get_or_insert(xs, ys, older, buckets, qx, qy, n);

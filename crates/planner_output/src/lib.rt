@@ -1,6 +1,7 @@
 // The line through the repaired graph, written into the output: the last step of a plan, with check 14.
 ghost use mathlib.Core.Path.{_≡_};
 ghost use Prim.Native.Nat.{_<_, _≤_};
+ghost use Rattle.limits.specs.Limits.{mostNodes, edgeRoom};
 ghost use Rattle.graph_node_points.specs.Points.{Places};
 ghost use Rattle.walk.specs.Walk.{Edges};
 ghost use Rattle.planner_output.specs.Output.{Emitted};
@@ -29,7 +30,7 @@ pub fn emit_line(
     inner: bool,
     output: &mut [u8],
 ) -> Outcome
-    requires room { ⌜ (n ≤ 1534) × (m < 4001) ⌝ }
+    requires room { ⌜ (n ≤ mostNodes) × (m < edgeRoom) ⌝ }
     requires places { ⌜ Places width height (now xs) (now ys) ⌝ }
     requires edges { ⌜ Edges n (now ends) (now next) (now heads) m ⌝ }
     ensures { λ r. ⌜ Emitted width height inner (now (xs .entry)) (now (ys .entry)) n (now (ends .entry)) (now (next .entry)) (now (heads .entry)) m (now (output .entry)) (now (output .exit)) r ⌝ }

@@ -7,13 +7,14 @@ use native.Mathlib.Numerals.{add-one}
 use native.Mathlib.Omega.{arith}
 use lib.ListN.{length, getD, take, drop, length-append, length-map, drop-of-length-le}
 use lib.Seq.{sets, sets-eq, length-sets, slice, slice-cons, length-take-le}
+use Rattle.limits.specs.Limits.{lineRoom}
 use Rattle.grid.specs.Grid.{writePlace}
 use Rattle.drawing_spec.specs.Drawing.{Point}
 use Rattle.drawing_spec.specs.Bytes.{bytes}
 use Rattle.graph_spec.specs.Graph.{pointAt}
 use Rattle.planner_spec.specs.Plan.{pointBytes, lineRecord}
 use Rattle.graph_node_points.specs.Points.{Points}
-use Rattle.graph_node_points.specs.Line.{lineRoom, Nodes, pointsOf}
+use Rattle.graph_node_points.specs.Line.{Nodes, pointsOf}
 use Rattle.record.proofs.Stored.{sets-append, bytes-length}
 use Rattle.record.specs.Written.{Written, placeBytes}
 

@@ -4,6 +4,7 @@ ghost use mathlib.Core.Path.{_≡_};
 ghost use Prim.Native.Nat.{_+_, _*_, _≤_, _<_};
 ghost use lib.ListN.{length};
 ghost use lib.Seq.{sets};
+ghost use Rattle.limits.specs.Limits.{lineRoom};
 ghost use Rattle.drawing_spec.specs.Bytes.{bytes};
 ghost use Rattle.graph_node_points.specs.Line.{Nodes};
 ghost use Rattle.record.specs.Written.{placeBytes, Written};
@@ -12,12 +13,6 @@ use walk_circuit::ENTRY_ROOM;
 
 // The kind of a line that the planner writes.
 const LINE: u64 = 4;
-
-fn wide(x: u16) -> usize
-    ensures { λ r. ⌜ r ≡ x ⌝ }
-{
-    x as usize
-}
 
 // Puts a number into `size` bytes from a place on.
 fn write_number(output: &mut [u8], at: usize, size: usize, n: u64)
@@ -52,7 +47,7 @@ pub fn write_line(
     count: usize,
     output: &mut [u8],
 )
-    requires nodes { ⌜ Nodes 4002 (now line) count ⌝ }
+    requires nodes { ⌜ Nodes lineRoom (now line) count ⌝ }
     requires room { ⌜ 6 + 16 * count ≤ length (now output) ⌝ }
     ensures { λ _. ⌜ Written (now (xs .entry)) (now (ys .entry)) (now (line .entry)) count (now (output .entry)) (now (output .exit)) ⌝ }
 {
@@ -60,7 +55,7 @@ pub fn write_line(
     write_number(output, 4, 2, LINE);
     let mut i = 0;
     while i < count {
-        let v = wide(line[i]);
+        let v = widen::wide(line[i]);
         write_point(output, 6 + 16 * i, xs[v], ys[v]);
         i += 1;
     }

@@ -4,6 +4,7 @@ use mathlib.Core.List.{List}
 use mathlib.Core.Bool.{Bool}
 use Prim.Native.Nat.{ℕ, _≤_}
 use lib.ListN.{length}
+use Rattle.limits.specs.Limits.{edgeRoom}
 use Rattle.drawing_spec.specs.Drawing.{Settings, closing}
 use Rattle.graph_spec.specs.Graph.{Edge, Graph}
 use Rattle.graph_spec.specs.Degree.{oddNodes}
@@ -22,7 +23,7 @@ use Rattle.repair.specs.declared.Repair.{Repair}
 
 -- the ends of the edges can be read
 abbrev pub Countable : Applied → List ℕ → Type 0
-Countable (Repaired x m) ends = (m ≤ 4001) × EndsBelow m ends
+Countable (Repaired x m) ends = (m ≤ edgeRoom) × EndsBelow m ends
 Countable (Refused k) ends = Unit {0}
 
 abbrev pub Answered : ℕ → ℕ → List ℕ → Applied → Repair → Type 0

@@ -2,6 +2,7 @@
 ghost use mathlib.Core.Path.{_≡_};
 ghost use Prim.Native.Nat.{ℕ, _<_, _≤_};
 ghost use lib.ListN.{getD};
+ghost use Rattle.limits.specs.Limits.{mostNodes, edgeRoom, mostPairs};
 ghost use Rattle.graph_adjacency.specs.Lists.{adjacency};
 ghost use Rattle.repair_retrace.specs.Apply.{Ready, pairsIn};
 ghost use Rattle.repair_closing.specs.Answer.{Closed, AllClosed};
@@ -9,12 +10,6 @@ use limits::EDGE_ROOM;
 use limits::MOST_NODES;
 use repair_retrace::Applied;
 use repair_retrace::MOST_PAIRS;
-
-fn wide(x: u16) -> usize
-    ensures { λ r. ⌜ r ≡ x ⌝ }
-{
-    x as usize
-}
 
 // The two nodes that are left odd are joined, if `closing`. This retrace is summed by itself and then added
 // to `sum`.
@@ -30,7 +25,7 @@ pub fn close(
     most: usize,
     number: u8,
 ) -> Applied
-    requires { ⌜ (n ≤ 1534) × (most ≤ 4001) × Ready n edges (adjacency (now ends) (now weights) (now next) (now heads)) ⌝ }
+    requires { ⌜ (n ≤ mostNodes) × (most ≤ edgeRoom) × Ready n edges (adjacency (now ends) (now weights) (now next) (now heads)) ⌝ }
     ensures { λ r. ⌜ Closed closing most number n edges sum (adjacency (now (ends .entry)) (now (weights .entry)) (now (next .entry)) (now (heads .entry))) (adjacency (now (ends .exit)) (now (weights .exit)) (now (next .exit)) (now (heads .exit))) r ⌝ }
 {
     if !closing {
@@ -41,8 +36,8 @@ pub fn close(
     if count != 2 {
         return Applied::Repaired(sum, edges);
     }
-    let from = wide(odd[0]);
-    let to = wide(odd[1]);
+    let from = widen::wide(odd[0]);
+    let to = widen::wide(odd[1]);
     let last = repair_retrace::apply_pair(
         ends,
         weights,
@@ -77,7 +72,7 @@ pub fn retrace_pairs(
     most: usize,
     number: u8,
 ) -> Applied
-    requires { ⌜ (n ≤ 1534) × (most ≤ 4001) × (pairs ≤ 767) × ((j : ℕ) → j < pairs → (getD (now firsts) j 0 < n) × (getD (now seconds) j 0 < n)) × Ready n edges (adjacency (now ends) (now weights) (now next) (now heads)) ⌝ }
+    requires { ⌜ (n ≤ mostNodes) × (most ≤ edgeRoom) × (pairs ≤ mostPairs) × ((j : ℕ) → j < pairs → (getD (now firsts) j 0 < n) × (getD (now seconds) j 0 < n)) × Ready n edges (adjacency (now ends) (now weights) (now next) (now heads)) ⌝ }
     ensures { λ r. ⌜ AllClosed closing most number n (pairsIn (now (firsts .entry)) (now (seconds .entry)) 0 pairs) edges (adjacency (now (ends .entry)) (now (weights .entry)) (now (next .entry)) (now (heads .entry))) (adjacency (now (ends .exit)) (now (weights .exit)) (now (next .exit)) (now (heads .exit))) r ⌝ }
 {
     let laid = repair_retrace::apply_matching(

@@ -3,20 +3,15 @@ ghost use mathlib.Core.Path.{_≡_};
 ghost use Prim.Native.Nat.{ℕ, _+_, _-_, _<_, _≤_};
 ghost use lib.ListN.{length, getD};
 ghost use lib.Ieee.{nan};
+ghost use Rattle.limits.specs.Limits.{mostNodes, edgeRoom};
 ghost use Rattle.graph_adjacency.specs.Lists.{adjacency, edgeNumber};
 ghost use Rattle.repair_copies.specs.Laying.{Stands, LaidAlong};
 use limits::EDGE_ROOM;
 use limits::MOST_NODES;
 
-fn wide(x: u16) -> usize
-    ensures { λ r. ⌜ r ≡ x ⌝ }
-{
-    x as usize
-}
-
 // The weight of an arc's edge.
 fn weight_of(weights: &[f64; EDGE_ROOM], k: usize) -> f64
-    requires { ⌜ (0 < k) × (edgeNumber k < 4001) ⌝ }
+    requires { ⌜ (0 < k) × (edgeNumber k < edgeRoom) ⌝ }
     ensures { λ r. ⌜ r ≡ getD (now (weights .entry)) (edgeNumber k) nan ⌝ }
 {
     let e = graph_adjacency::edge_number(k);
@@ -36,19 +31,19 @@ pub fn lay_path(
     edges: usize,
     sum: f64,
 ) -> f64
-    requires { ⌜ (first < 1534) × (edges + (1533 - first) ≤ 4001) × (length (now path) ≡ 1534) × ((j : ℕ) → first ≤ j → j < 1534 → getD (now path) j 0 < 1534) × Stands edges (adjacency (now ends) (now weights) (now next) (now heads)) ⌝ }
+    requires { ⌜ (first < mostNodes) × (edges + (1533 - first) ≤ edgeRoom) × (length (now path) ≡ mostNodes) × ((j : ℕ) → first ≤ j → j < mostNodes → getD (now path) j 0 < mostNodes) × Stands edges (adjacency (now ends) (now weights) (now next) (now heads)) ⌝ }
     ensures { λ r. ⌜ LaidAlong (now (path .entry)) first edges sum (adjacency (now (ends .entry)) (now (weights .entry)) (now (next .entry)) (now (heads .entry))) (adjacency (now (ends .exit)) (now (weights .exit)) (now (next .exit)) (now (heads .exit))) r ⌝ }
 {
     let mut total = sum;
     let mut e = edges;
     let mut i = first;
     'step: while i + 1 < MOST_NODES {
-        let u = wide(path[i]);
+        let u = widen::wide(path[i]);
         i += 1;
-        let v = wide(path[i]);
+        let v = widen::wide(path[i]);
         let mut k = graph_adjacency::first_arc(heads, u);
         while k != 0 {
-            if wide(ends[k - 1]) == v {
+            if widen::wide(ends[k - 1]) == v {
                 let w = weight_of(weights, k);
                 graph_adjacency::push_edge(ends, weights, next, heads, e, u, v, w);
                 e += 1;

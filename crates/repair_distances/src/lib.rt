@@ -3,17 +3,12 @@
 ghost use mathlib.Core.Path.{_≡_};
 ghost use Prim.Native.Nat.{_+_, _*_, _^_, _<_, _≤_};
 ghost use lib.ListN.{length};
+ghost use Rattle.limits.specs.Limits.{mostNodes};
 ghost use Rattle.graph_adjacency.specs.Lists.{adjacency};
 ghost use Rattle.repair_search.specs.Search.{IsGraph};
 ghost use Rattle.repair_distances.specs.Rows.{AreNodes, Copied, Row, Rows};
 use limits::EDGE_ROOM;
 use limits::MOST_NODES;
-
-fn wide(x: u16) -> usize
-    ensures { λ r. ⌜ r ≡ x ⌝ }
-{
-    x as usize
-}
 
 // The distances `at` of the odd nodes, of which there are `count`, go into the table from `start` on.
 fn copy_row(
@@ -23,12 +18,12 @@ fn copy_row(
     table: &mut [f64],
     start: usize,
 )
-    requires { ⌜ (count ≤ 20) × (start + count ≤ length (now table)) × AreNodes 1534 (now odd) count ⌝ }
+    requires { ⌜ (count ≤ 20) × (start + count ≤ length (now table)) × AreNodes mostNodes (now odd) count ⌝ }
     ensures { λ _. ⌜ Copied (now (at .entry)) (now (odd .entry)) count start (now (table .entry)) (now (table .exit)) ⌝ }
 {
     let mut j = 0;
     while j < count {
-        let v = wide(odd[j]);
+        let v = widen::wide(odd[j]);
         table[start + j] = at[v];
         j += 1;
     }
@@ -46,10 +41,10 @@ fn fill_row(
     table: &mut [f64],
     i: usize,
 )
-    requires { ⌜ (n ≤ 1534) × (count ≤ 20) × (i < count) × (2 ^ count + count * count ≤ length (now table)) × AreNodes n (now odd) count × IsGraph n (adjacency (now ends) (now weights) (now next) (now heads)) ⌝ }
+    requires { ⌜ (n ≤ mostNodes) × (count ≤ 20) × (i < count) × (2 ^ count + count * count ≤ length (now table)) × AreNodes n (now odd) count × IsGraph n (adjacency (now ends) (now weights) (now next) (now heads)) ⌝ }
     ensures { λ _. ⌜ Row n (adjacency (now (ends .entry)) (now (weights .entry)) (now (next .entry)) (now (heads .entry))) (now (odd .entry)) count i (now (table .entry)) (now (table .exit)) ⌝ }
 {
-    let s = wide(odd[i]);
+    let s = widen::wide(odd[i]);
     let found = repair_search::least_distances(ends, weights, next, heads, n, s, MOST_NODES);
     let at = found.at;
     let start = repair_table::row_of(count, i);
@@ -67,7 +62,7 @@ pub fn fill_rows(
     count: usize,
     table: &mut [f64],
 )
-    requires { ⌜ (n ≤ 1534) × (count ≤ 20) × (2 ^ count + count * count ≤ length (now table)) × AreNodes n (now odd) count × IsGraph n (adjacency (now ends) (now weights) (now next) (now heads)) ⌝ }
+    requires { ⌜ (n ≤ mostNodes) × (count ≤ 20) × (2 ^ count + count * count ≤ length (now table)) × AreNodes n (now odd) count × IsGraph n (adjacency (now ends) (now weights) (now next) (now heads)) ⌝ }
     ensures { λ _. ⌜ Rows n (adjacency (now (ends .entry)) (now (weights .entry)) (now (next .entry)) (now (heads .entry))) (now (odd .entry)) count count (now (table .exit)) ⌝ }
 {
     let mut i = 0;

@@ -2,6 +2,7 @@
 use mathlib.Core.List.{List, [], _∷_}
 use Prim.Native.Nat.{ℕ, _^_, _≤_, _<_}
 use lib.ListN.{length, getD}
+use Rattle.limits.specs.Limits.{mostNodes}
 use Rattle.drawing_spec.specs.Drawing.{Point}
 use Rattle.repair_spec.specs.Pairing.{noPoint}
 
@@ -27,4 +28,4 @@ pub record OnGrid (xs ys : List ℕ) : Type 0 where
 -- the first n of w are nodes
 pub record Working (w : List ℕ) (n : ℕ) : Type 0 where
   pub long : n ≤ length w
-  pub nodes : (i : ℕ) → i < n → getD w i 0 < 1534
+  pub nodes : (i : ℕ) → i < n → getD w i 0 < mostNodes

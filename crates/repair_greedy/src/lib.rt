@@ -5,6 +5,7 @@ ghost use mathlib.Core.Path.{_≡_};
 ghost use mathlib.Core.List.{map};
 ghost use Prim.Native.Nat.{_+_, _-_, _^_, _<_, _≤_};
 ghost use lib.ListN.{length, getD, take, drop, set};
+ghost use Rattle.limits.specs.Limits.{mostNodes, mostPairs};
 ghost use Rattle.graph_spec.specs.Chain.{squared};
 ghost use Rattle.repair_spec.specs.Pairing.{nothing, between, closer, closestTo, closest, greedyPairs};
 ghost use Rattle.repair_greedy.specs.Points.{at, pointsOf, pointAt, OnGrid, Working};
@@ -26,18 +27,12 @@ struct Nearest {
     squared: u64,
 }
 
-fn wide(x: u16) -> usize
-    ensures { λ r. ⌜ r ≡ x ⌝ }
-{
-    x as usize
-}
-
 // The squared distance from px, py to the node v.
 fn distance_to(xs: &[u32; MOST_NODES], ys: &[u32; MOST_NODES], px: u32, py: u32, v: u16) -> u64
-    requires { ⌜ (v < 1534) × (px ≤ 2 ^ 24) × (py ≤ 2 ^ 24) × OnGrid (now xs) (now ys) ⌝ }
+    requires { ⌜ (v < mostNodes) × (px ≤ 2 ^ 24) × (py ≤ 2 ^ 24) × OnGrid (now xs) (now ys) ⌝ }
     ensures { λ r. ⌜ r ≡ squared (at px py) (pointAt (now (xs .entry)) (now (ys .entry)) v) ⌝ }
 {
-    let u = wide(v);
+    let u = widen::wide(v);
     let qx = xs[u];
     let qy = ys[u];
     length::squared(px, py, qx, qy)
@@ -61,10 +56,10 @@ fn scan_row(
     n: usize,
     i: usize,
 ) -> Nearest
-    requires { ⌜ (n ≤ 1534) × (i + 1 < n) × OnGrid (now xs) (now ys) × Working (now working) n ⌝ }
+    requires { ⌜ (n ≤ mostNodes) × (i + 1 < n) × OnGrid (now xs) (now ys) × Working (now working) n ⌝ }
     ensures { λ r. ⌜ closestTo (pointAt (now (xs .entry)) (now (ys .entry)) (getD (now (working .entry)) i 0)) i (drop (i + 1) (map (pointAt (now (xs .entry)) (now (ys .entry))) (take n (now (working .entry))))) (i + 1) nothing ≡ between (r .from) (r .to) (r .squared) ⌝ }
 {
-    let u = wide(working[i]);
+    let u = widen::wide(working[i]);
     let px = xs[u];
     let py = ys[u];
     let mut j = i + 1;
@@ -94,7 +89,7 @@ fn with_row(
     i: usize,
     best: Nearest,
 ) -> Nearest
-    requires { ⌜ (n ≤ 1534) × (i + 1 < n) × OnGrid (now xs) (now ys) × Working (now working) n × Bounds (pointAt (now xs) (now ys)) (now working) n (now lows) ⌝ }
+    requires { ⌜ (n ≤ mostNodes) × (i + 1 < n) × OnGrid (now xs) (now ys) × Working (now working) n × Bounds (pointAt (now xs) (now ys)) (now working) n (now lows) ⌝ }
     ensures { λ r. ⌜ (closestTo (pointAt (now (xs .entry)) (now (ys .entry)) (getD (now (working .entry)) i 0)) i (drop (i + 1) (map (pointAt (now (xs .entry)) (now (ys .entry))) (take n (now (working .entry))))) (i + 1) (between (best .from) (best .to) (best .squared)) ≡ between (r .from) (r .to) (r .squared)) × Bounds (pointAt (now (xs .entry)) (now (ys .entry))) (now (working .entry)) n (now (lows .exit)) ⌝ }
 {
     let low = lows[i];
@@ -108,7 +103,7 @@ fn with_row(
 
 // The row whose bound is the least, of n places. Which row it is decides the time, and no answer.
 fn least_row(lows: &[u64; ROOM], n: usize) -> usize
-    requires { ⌜ (n ≤ 1534) × (2 ≤ n) ⌝ }
+    requires { ⌜ (n ≤ mostNodes) × (2 ≤ n) ⌝ }
     ensures { λ r. ⌜ r + 1 < n ⌝ }
 {
     let last = n - 1;
@@ -140,7 +135,7 @@ fn look_at_least(
     lows: &mut [u64; ROOM],
     n: usize,
 ) -> Reached
-    requires { ⌜ (n ≤ 1534) × (2 ≤ n) × OnGrid (now xs) (now ys) × Working (now working) n × Bounds (pointAt (now xs) (now ys)) (now working) n (now lows) ⌝ }
+    requires { ⌜ (n ≤ mostNodes) × (2 ≤ n) × OnGrid (now xs) (now ys) × Working (now working) n × Bounds (pointAt (now xs) (now ys)) (now working) n (now lows) ⌝ }
     ensures { λ r. ⌜ AtMost (closest (map (pointAt (now (xs .entry)) (now (ys .entry))) (take n (now (working .entry)))) 0 nothing) (r .squared) × (r .squared ≤ 2 ^ 49) × Bounds (pointAt (now (xs .entry)) (now (ys .entry))) (now (working .entry)) n (now (lows .exit)) ⌝ }
 {
     let i = least_row(lows, n);
@@ -163,7 +158,7 @@ fn least_distance(
     lows: &mut [u64; ROOM],
     n: usize,
 ) -> u64
-    requires { ⌜ (n ≤ 1534) × (2 ≤ n) × OnGrid (now xs) (now ys) × Working (now working) n × Bounds (pointAt (now xs) (now ys)) (now working) n (now lows) ⌝ }
+    requires { ⌜ (n ≤ mostNodes) × (2 ≤ n) × OnGrid (now xs) (now ys) × Working (now working) n × Bounds (pointAt (now xs) (now ys)) (now working) n (now lows) ⌝ }
     ensures { λ r. ⌜ AtMost (closest (map (pointAt (now (xs .entry)) (now (ys .entry))) (take n (now (working .entry)))) 0 nothing) r × (r ≤ 2 ^ 49) × Bounds (pointAt (now (xs .entry)) (now (ys .entry))) (now (working .entry)) n (now (lows .exit)) ⌝ }
 {
     let mut reached = look_at_least(xs, ys, working, lows, n);
@@ -186,7 +181,7 @@ fn find_closest(
     lows: &mut [u64; ROOM],
     n: usize,
 ) -> Nearest
-    requires { ⌜ (n ≤ 1534) × (2 ≤ n) × OnGrid (now xs) (now ys) × Working (now working) n × Bounds (pointAt (now xs) (now ys)) (now working) n (now lows) ⌝ }
+    requires { ⌜ (n ≤ mostNodes) × (2 ≤ n) × OnGrid (now xs) (now ys) × Working (now working) n × Bounds (pointAt (now xs) (now ys)) (now working) n (now lows) ⌝ }
     ensures { λ r. ⌜ (closest (map (pointAt (now (xs .entry)) (now (ys .entry))) (take n (now (working .entry)))) 0 nothing ≡ between (r .from) (r .to) (r .squared)) × (r .from < r .to) × (r .to < n) × Bounds (pointAt (now (xs .entry)) (now (ys .entry))) (now (working .entry)) n (now (lows .exit)) ⌝ }
 {
     let least = least_distance(xs, ys, working, lows, n);
@@ -207,7 +202,7 @@ fn find_closest(
 
 // The node at place i goes, and the last one takes its place.
 fn remove_place(working: &mut [u16; ROOM], lows: &mut [u64; ROOM], last: usize, i: usize)
-    requires { ⌜ (last < 1534) × (i < 1534) ⌝ }
+    requires { ⌜ (last < mostNodes) × (i < mostNodes) ⌝ }
     ensures { λ _. ⌜ (now (working .exit) ≡ set (now (working .entry)) i (getD (now (working .entry)) last 0)) × (now (lows .exit) ≡ set (now (lows .entry)) i 0) ⌝ }
 {
     working[i] = working[last];
@@ -225,7 +220,7 @@ fn pair_nearest(
     n: usize,
     count: usize,
 )
-    requires { ⌜ (n ≤ 1534) × (2 < n) × (count < 767) × OnGrid (now xs) (now ys) × Working (now working) n × Bounds (pointAt (now xs) (now ys)) (now working) n (now lows) ⌝ }
+    requires { ⌜ (n ≤ mostNodes) × (2 < n) × (count < mostPairs) × OnGrid (now xs) (now ys) × Working (now working) n × Bounds (pointAt (now xs) (now ys)) (now working) n (now lows) ⌝ }
     ensures { λ _. ⌜ Working (now (working .exit)) (n - 2) × Bounds (pointAt (now (xs .entry)) (now (ys .entry))) (now (working .exit)) (n - 2) (now (lows .exit)) × Round (pointsOf (now (xs .entry)) (now (ys .entry))) (now (working .entry)) (now (working .exit)) n count (now (firsts .entry)) (now (firsts .exit)) (now (seconds .entry)) (now (seconds .exit)) ⌝ }
 {
     let near = find_closest(xs, ys, working, lows, n);
@@ -247,7 +242,7 @@ pub fn greedy_pairs(
     firsts: &mut [u16; PAIR_ROOM],
     seconds: &mut [u16; PAIR_ROOM],
 ) -> usize
-    requires { ⌜ (n ≤ 1534) × OnGrid (now xs) (now ys) × Working (now working) n ⌝ }
+    requires { ⌜ (n ≤ mostNodes) × OnGrid (now xs) (now ys) × Working (now working) n ⌝ }
     ensures { λ r. ⌜ Written (greedyPairs n (pointsOf (now (xs .entry)) (now (ys .entry))) (take n (now (working .entry)))) r (now (firsts .entry)) (now (firsts .exit)) (now (seconds .entry)) (now (seconds .exit)) ⌝ }
 {
     let mut lows = [0u64; ROOM];

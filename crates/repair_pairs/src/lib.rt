@@ -4,6 +4,7 @@ ghost use mathlib.Core.Path.{_≡_};
 ghost use mathlib.Core.List.{List};
 ghost use Prim.Native.Nat.{_+_, _*_, _^_, _<_, _≤_};
 ghost use lib.ListN.{length, replicate};
+ghost use Rattle.limits.specs.Limits.{mostNodes, edgeRoom};
 ghost use Rattle.drawing_spec.specs.Drawing.{Settings};
 ghost use Rattle.graph_spec.specs.Graph.{Edge};
 ghost use Rattle.graph_spec.specs.Degree.{oddNodes};
@@ -236,7 +237,7 @@ pub fn closing_pair(
     firsts: &mut [u16; PAIR_ROOM],
     seconds: &mut [u16; PAIR_ROOM],
 ) -> usize
-    requires room { ⌜ (n ≤ 1534) × (m ≤ 4001) ⌝ }
+    requires room { ⌜ (n ≤ mostNodes) × (m ≤ edgeRoom) ⌝ }
     requires nodes { ⌜ EndsBelow m (now ends) ⌝ }
     ensures { λ r. ⌜ ((es : List Edge) → EndsHeld n es (now (ends .entry)) → length es ≡ m → Written (closingPairs n es) r (now (firsts .entry)) (now (firsts .exit)) (now (seconds .entry)) (now (seconds .exit))) ⌝ }
 {

@@ -5,6 +5,7 @@ use mathlib.Core.Bool.{true, false}
 use Prim.Native.Nat.{ℕ, zero, suc, _+_, _-_}
 use lib.ListN.{length, getD}
 use lib.Dec.{leb}
+use Rattle.limits.specs.Limits.{mostNodes}
 use Rattle.graph_spec.specs.Graph.{Edge}
 use Rattle.graph_adjacency.specs.Lists.{Adjacency}
 use Rattle.repair_spec.specs.Retrace.{Path, found, error, shortestPath, Laid, layPath}
@@ -51,5 +52,5 @@ pub record Ready (n m : ℕ) (g : Adjacency) : Type 0 where
 
 -- what is found of the shortest path between s and t, and the array that it stands in
 pub record IsShortest (n : ℕ) (g : Adjacency) (s t : ℕ) (path : List ℕ) (way : Path) : Type 0 where
-  pub long : length path ≡ 1534
+  pub long : length path ≡ mostNodes
   pub is : (es : List Edge) → Holds n es g → shortestPath n es s t ≡ way

@@ -2,6 +2,7 @@
 // a graph in flat arrays (crates/adjacency).
 ghost use mathlib.Core.Path.{_≡_};
 ghost use Prim.Native.Nat.{ℕ, _<_, _≤_};
+ghost use Rattle.limits.specs.Limits.{mostNodes, edgeRoom, mostPairs};
 ghost use Rattle.graph_adjacency.specs.Lists.{adjacency};
 ghost use lib.ListN.{length, getD};
 ghost use Rattle.repair_search.specs.Search.{IsGraph};
@@ -36,7 +37,7 @@ pub fn shortest_path(
     s: usize,
     t: usize,
 ) -> Way
-    requires { ⌜ (n ≤ 1534) × (s < n) × (t < n) × (length (now path) ≡ 1534) × IsGraph n (adjacency (now ends) (now weights) (now next) (now heads)) ⌝ }
+    requires { ⌜ (n ≤ mostNodes) × (s < n) × (t < n) × (length (now path) ≡ mostNodes) × IsGraph n (adjacency (now ends) (now weights) (now next) (now heads)) ⌝ }
     ensures { λ r. ⌜ IsShortest n (adjacency (now (ends .entry)) (now (weights .entry)) (now (next .entry)) (now (heads .entry))) s t (now (path .exit)) (wayIn (now (path .exit)) r) ⌝ }
 {
     let found = repair_search::least_distances(ends, weights, next, heads, n, s, t);
@@ -59,7 +60,7 @@ pub fn apply_pair(
     most: usize,
     number: u8,
 ) -> Applied
-    requires { ⌜ (n ≤ 1534) × (from < n) × (to < n) × (most ≤ 4001) × Ready n edges (adjacency (now ends) (now weights) (now next) (now heads)) ⌝ }
+    requires { ⌜ (n ≤ mostNodes) × (from < n) × (to < n) × (most ≤ edgeRoom) × Ready n edges (adjacency (now ends) (now weights) (now next) (now heads)) ⌝ }
     ensures { λ r. ⌜ PairApplied most number n from to edges sum (adjacency (now (ends .entry)) (now (weights .entry)) (now (next .entry)) (now (heads .entry))) (adjacency (now (ends .exit)) (now (weights .exit)) (now (next .exit)) (now (heads .exit))) r ⌝ }
 {
     let mut path = [0; MOST_NODES];
@@ -73,12 +74,6 @@ pub fn apply_pair(
     }
     let total = repair_copies::lay_path(ends, weights, next, heads, &path, first, edges, sum);
     Applied::Repaired(total, count)
-}
-
-fn wide(x: u16) -> usize
-    ensures { λ r. ⌜ r ≡ x ⌝ }
-{
-    x as usize
 }
 
 // The retraces of the pairs, one after the other, each on the graph as it then is.
@@ -96,15 +91,15 @@ pub fn apply_matching(
     most: usize,
     number: u8,
 ) -> Applied
-    requires { ⌜ (n ≤ 1534) × (most ≤ 4001) × (pairs ≤ 767) × ((j : ℕ) → j < pairs → (getD (now firsts) j 0 < n) × (getD (now seconds) j 0 < n)) × Ready n edges (adjacency (now ends) (now weights) (now next) (now heads)) ⌝ }
+    requires { ⌜ (n ≤ mostNodes) × (most ≤ edgeRoom) × (pairs ≤ mostPairs) × ((j : ℕ) → j < pairs → (getD (now firsts) j 0 < n) × (getD (now seconds) j 0 < n)) × Ready n edges (adjacency (now ends) (now weights) (now next) (now heads)) ⌝ }
     ensures { λ r. ⌜ AllApplied most number n (pairsIn (now (firsts .entry)) (now (seconds .entry)) 0 pairs) edges sum (adjacency (now (ends .entry)) (now (weights .entry)) (now (next .entry)) (now (heads .entry))) (adjacency (now (ends .exit)) (now (weights .exit)) (now (next .exit)) (now (heads .exit))) r ⌝ }
 {
     let mut total = sum;
     let mut count = edges;
     let mut i: usize = 0;
     while i < pairs {
-        let from = wide(firsts[i]);
-        let to = wide(seconds[i]);
+        let from = widen::wide(firsts[i]);
+        let to = widen::wide(seconds[i]);
         let step = apply_pair(
             ends,
             weights,

@@ -7,10 +7,11 @@ use native.Mathlib.Decide.{decLe}
 use native.Mathlib.Omega.{arith}
 use lib.ListN.{getD}
 use lib.Ieee.{Float, nan, binary64, add}
+use Rattle.limits.specs.Limits.{edgeRoom}
 use Rattle.sums.specs.Key.{Nonneg}
 use Rattle.sums.proofs.Sum.{add-nonneg}
 use Rattle.graph_spec.specs.Graph.{Arc}
-use Rattle.graph_adjacency.specs.Lists.{Adjacency, edgeRoom, firstArc, nextArc, edgeNumber, arcAt}
+use Rattle.graph_adjacency.specs.Lists.{Adjacency, firstArc, nextArc, edgeNumber, arcAt}
 use Rattle.graph_adjacency.proofs.Lists.{number-second, number-first}
 use Rattle.graph_adjacency.specs.Follow.{AtArc, Follows}
 use Rattle.graph_adjacency.proofs.Follow.{follows-none, follows-arc, follows-next}

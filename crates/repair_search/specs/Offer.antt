@@ -5,6 +5,7 @@ use mathlib.Core.List.{List}
 use Prim.Native.Nat.{ℕ, _<_}
 use lib.ListN.{length}
 use lib.Ieee.{Float}
+use Rattle.limits.specs.Limits.{mostNodes}
 use Rattle.repair_tournament.specs.Tree.{value, Tree}
 use Rattle.repair_spec.specs.Distance.{distanceAt, improve}
 use Rattle.repair_spec.specs.Relax.{keyAt, AllNonneg}
@@ -12,7 +13,7 @@ use Rattle.repair_spec.specs.Relax.{keyAt, AllNonneg}
 -- distances and a tournament that code can go on with
 pub record Held (n : ℕ) (ds t : List Float) : Type 0 where
   pub tree : Tree n t
-  pub long : length ds ≡ 1534
+  pub long : length ds ≡ mostNodes
   pub nonneg : AllNonneg ds
 
 -- every node keeps its distance and its value, or has a lower distance, which is its value

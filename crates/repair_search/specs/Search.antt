@@ -4,6 +4,7 @@ use mathlib.Core.List.{List}
 use Prim.Native.Nat.{ℕ, _-_, _≤_}
 use lib.ListN.{length}
 use lib.Ieee.{Float}
+use Rattle.limits.specs.Limits.{mostNodes, edgeRoom}
 use Rattle.graph_spec.specs.Graph.{Edge}
 use Rattle.graph_spec.specs.Ways.{Inside}
 use Rattle.graph_adjacency.specs.Lists.{Adjacency, lists}
@@ -15,7 +16,7 @@ use Rattle.repair_spec.specs.Rounds.{UpTo}
 -- the arrays hold the edges es between n nodes, none of negative weight
 pub record GraphOf (n : ℕ) (es : List Edge) (g : Adjacency) : Type 0 where
   pub is : g ≡ lists es
-  pub few : length es ≤ 4001
+  pub few : length es ≤ edgeRoom
   pub inside : Inside n es
   pub weights : Weights es
 
@@ -28,6 +29,6 @@ pub record IsGraph (n : ℕ) (g : Adjacency) : Type 0 where
 
 -- distances from s, up to that of the goal
 pub record Found (n : ℕ) (g : Adjacency) (s goal : ℕ) (ds : List Float) : Type 0 where
-  pub long : length ds ≡ 1534
+  pub long : length ds ≡ mostNodes
   pub nonneg : AllNonneg ds
   pub up-to : (es : List Edge) → GraphOf n es g → (v : ℕ) → UpTo es s (distanceAt ds goal) v (distanceAt ds v)

@@ -6,6 +6,7 @@ ghost use mathlib.Core.Path.{_≡_};
 ghost use Prim.Native.Nat.{_<_, _≤_};
 ghost use lib.ListN.{length};
 ghost use lib.Ieee.{binary64};
+ghost use Rattle.limits.specs.Limits.{mostNodes};
 ghost use Rattle.sums.specs.Key.{Nonneg};
 ghost use Rattle.graph_adjacency.specs.Lists.{adjacency};
 ghost use Rattle.repair_spec.specs.Distance.{distanceAt};
@@ -16,12 +17,6 @@ ghost use Rattle.repair_search.specs.Farther.{Leads};
 use limits::EDGE_ROOM;
 use limits::MOST_NODES;
 
-fn wide(x: u16) -> usize
-    ensures { λ r. ⌜ r ≡ x ⌝ }
-{
-    x as usize
-}
-
 // The way to v that costs `cost`, where that is less.
 fn offer(
     dist: &mut [f64; MOST_NODES],
@@ -30,7 +25,7 @@ fn offer(
     v: usize,
     cost: f64,
 )
-    requires { ⌜ (n ≤ 1534) × (v < n) × Held n (now dist) (now tree) × Nonneg binary64 cost ⌝ }
+    requires { ⌜ (n ≤ mostNodes) × (v < n) × Held n (now dist) (now tree) × Nonneg binary64 cost ⌝ }
     ensures { λ _. ⌜ Offered n v cost (now (dist .entry)) (now (tree .entry)) (now (dist .exit)) (now (tree .exit)) ⌝ }
 {
     if cost < dist[v] {
@@ -51,14 +46,14 @@ pub fn relax(
     u: usize,
     d: f64,
 )
-    requires { ⌜ (n ≤ 1534) × (u < n) × Nonneg binary64 d × Held n (now dist) (now tree) × ArcsOf n (adjacency (now ends) (now weights) (now next) (now heads)) u ⌝ }
+    requires { ⌜ (n ≤ mostNodes) × (u < n) × Nonneg binary64 d × Held n (now dist) (now tree) × ArcsOf n (adjacency (now ends) (now weights) (now next) (now heads)) u ⌝ }
     ensures { λ _. ⌜ Relaxed n (adjacency (now (ends .entry)) (now (weights .entry)) (now (next .entry)) (now (heads .entry))) u d (now (dist .entry)) (now (tree .entry)) (now (dist .exit)) (now (tree .exit)) ⌝ }
 {
     let mut k = graph_adjacency::first_arc(heads, u);
     while k != 0 {
         let e = graph_adjacency::edge_number(k);
         let cost = d + weights[e];
-        let v = wide(ends[k - 1]);
+        let v = widen::wide(ends[k - 1]);
         offer(dist, tree, n, v, cost);
         k = graph_adjacency::next_arc(next, heads, u, k);
     }
@@ -66,7 +61,7 @@ pub fn relax(
 
 // The distance of the goal; infinity where it is no node.
 fn distance_of(dist: &[f64; MOST_NODES], goal: usize) -> f64
-    requires { ⌜ length (now dist) ≡ 1534 ⌝ }
+    requires { ⌜ length (now dist) ≡ mostNodes ⌝ }
     ensures { λ r. ⌜ r ≡ distanceAt (now (dist .entry)) goal ⌝ }
 {
     if goal < MOST_NODES {
@@ -92,7 +87,7 @@ pub fn least_distances(
     s: usize,
     goal: usize,
 ) -> Distances
-    requires { ⌜ (n ≤ 1534) × (s < n) × IsGraph n (adjacency (now ends) (now weights) (now next) (now heads)) ⌝ }
+    requires { ⌜ (n ≤ mostNodes) × (s < n) × IsGraph n (adjacency (now ends) (now weights) (now next) (now heads)) ⌝ }
     ensures { λ r. ⌜ Found n (adjacency (now (ends .entry)) (now (weights .entry)) (now (next .entry)) (now (heads .entry))) s goal (r .at) ⌝ }
 {
     let infinity = repair_tournament::infinity();
@@ -126,7 +121,7 @@ pub fn retrace_distances(
     s: usize,
     goal: usize,
 ) -> Distances
-    requires { ⌜ (n ≤ 1534) × (s < n) × (goal < n) × IsGraph n (adjacency (now ends) (now weights) (now next) (now heads)) ⌝ }
+    requires { ⌜ (n ≤ mostNodes) × (s < n) × (goal < n) × IsGraph n (adjacency (now ends) (now weights) (now next) (now heads)) ⌝ }
     ensures { λ r. ⌜ Leads n (adjacency (now (ends .entry)) (now (weights .entry)) (now (next .entry)) (now (heads .entry))) s goal (r .at) ⌝ }
 {
     let near = least_distances(ends, weights, next, heads, n, s, goal);

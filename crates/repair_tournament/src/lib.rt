@@ -5,6 +5,7 @@ ghost use mathlib.Core.Path.{_≡_};
 ghost use mathlib.Core.Bool.{Bool, true, false};
 ghost use Prim.Native.Nat.{ℕ, _<_, _≤_};
 ghost use lib.Ieee.{binary64};
+ghost use Rattle.limits.specs.Limits.{mostNodes};
 ghost use Rattle.sums.specs.Key.{Nonneg};
 ghost use Rattle.repair_tournament.specs.Tree.{lesser, at, value, infinity, Tree, Stored};
 use limits::MOST_NODES;
@@ -34,7 +35,7 @@ fn differ(x: f64, y: f64) -> bool
 
 // Stores x as the value v.
 pub fn store(tree: &mut [f64; 2 * MOST_NODES], n: usize, v: usize, x: f64)
-    requires { ⌜ (n ≤ 1534) × (v < n) × Tree n (now tree) × Nonneg binary64 x ⌝ }
+    requires { ⌜ (n ≤ mostNodes) × (v < n) × Tree n (now tree) × Nonneg binary64 x ⌝ }
     ensures { λ _. ⌜ Stored n v x (now (tree .entry)) (now (tree .exit)) ⌝ }
 {
     let place = n + v;
@@ -52,7 +53,7 @@ pub fn store(tree: &mut [f64; 2 * MOST_NODES], n: usize, v: usize, x: f64)
 
 // Which value is the least; the one with the lowest place where several are.
 pub fn least(tree: &[f64; 2 * MOST_NODES], n: usize) -> usize
-    requires { ⌜ (0 < n) × (n ≤ 1534) × Tree n (now tree) ⌝ }
+    requires { ⌜ (0 < n) × (n ≤ mostNodes) × Tree n (now tree) ⌝ }
     ensures { λ r. ⌜ (r < n) × (value n (now (tree .entry)) r ≡ at (now (tree .entry)) 1) ⌝ }
 {
     let mut i: usize = 1;

@@ -6,8 +6,9 @@ use Prim.Native.Nat.{ℕ, _-_, _≤_, _<_}
 use native.Mathlib.Decide.{decLe}
 use native.Mathlib.Omega.{arith}
 use lib.ListN.{getD}
+use Rattle.limits.specs.Limits.{edgeRoom}
 use Rattle.graph_spec.specs.Graph.{Arc}
-use Rattle.graph_adjacency.specs.Lists.{Adjacency, edgeRoom, firstArc, nextArc, edgeNumber, arcAt}
+use Rattle.graph_adjacency.specs.Lists.{Adjacency, firstArc, nextArc, edgeNumber, arcAt}
 use Rattle.graph_adjacency.proofs.Lists.{number-second, number-first}
 use Rattle.graph_adjacency.specs.Follow.{Follows}
 use Rattle.graph_adjacency.proofs.Follow.{follows-none, follows-arc, follows-next}

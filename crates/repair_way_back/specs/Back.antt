@@ -5,6 +5,7 @@ use mathlib.Core.Bool.{Bool, false, _&&_, not}
 use Prim.Native.Nat.{ℕ, _-_}
 use lib.ListN.{length, getD}
 use lib.Ieee.{Float, nan}
+use Rattle.limits.specs.Limits.{mostNodes}
 use Rattle.graph_spec.specs.Graph.{Edge}
 use Rattle.graph_adjacency.specs.Lists.{Adjacency, edgeNumber}
 use Rattle.repair_spec.specs.Retrace.{Path, onWayBack, wayBack}
@@ -22,5 +23,5 @@ fitting ends weights ds seen v k =
 
 -- an answer, and the array that it speaks of
 pub record IsWayBack (n : ℕ) (g : Adjacency) (ds : List Float) (s t : ℕ) (path : List ℕ) (way : Path) : Type 0 where
-  pub long : length path ≡ 1534
+  pub long : length path ≡ mostNodes
   pub is : (es : List Edge) → GraphOf n es g → way ≡ wayBack n es ds s t []

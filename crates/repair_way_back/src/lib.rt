@@ -3,6 +3,7 @@
 ghost use mathlib.Core.Path.{_≡_};
 ghost use Prim.Native.Nat.{_-_, _<_, _≤_};
 ghost use lib.ListN.{length, getD};
+ghost use Rattle.limits.specs.Limits.{mostNodes, edgeRoom, arcRoom};
 ghost use Rattle.graph_adjacency.specs.Lists.{adjacency, edgeNumber};
 ghost use Rattle.repair_search.specs.Search.{IsGraph};
 ghost use Rattle.repair_spec.specs.Retrace.{onWayBack};
@@ -10,12 +11,6 @@ ghost use Rattle.repair_way_back.specs.Back.{fitting, IsWayBack};
 ghost use Rattle.repair_way_back.specs.Answer.{wayIn};
 use limits::EDGE_ROOM;
 use limits::MOST_NODES;
-
-fn wide(x: u16) -> usize
-    ensures { λ r. ⌜ r ≡ x ⌝ }
-{
-    x as usize
-}
 
 // Whether a neighbour at the distance d, by an edge of weight w, is on the way back from a node at the
 // distance c.
@@ -38,10 +33,10 @@ fn fits(
     v: usize,
     k: usize,
 ) -> bool
-    requires { ⌜ (v < 1534) × (0 < k) × (k ≤ 8002) × (edgeNumber k < 4001) × (getD (now ends) (k - 1) 0 < 1534) ⌝ }
+    requires { ⌜ (v < mostNodes) × (0 < k) × (k ≤ arcRoom) × (edgeNumber k < edgeRoom) × (getD (now ends) (k - 1) 0 < mostNodes) ⌝ }
     ensures { λ r. ⌜ r ≡ fitting (now (ends .entry)) (now (weights .entry)) (now (dist .entry)) (now (seen .entry)) v k ⌝ }
 {
-    let u = wide(ends[k - 1]);
+    let u = widen::wide(ends[k - 1]);
     if seen[u] {
         return false;
     }
@@ -70,7 +65,7 @@ pub fn way_back(
     s: usize,
     t: usize,
 ) -> Way
-    requires { ⌜ (n ≤ 1534) × (t < n) × (length (now dist) ≡ 1534) × (length (now path) ≡ 1534) × IsGraph n (adjacency (now ends) (now weights) (now next) (now heads)) ⌝ }
+    requires { ⌜ (n ≤ mostNodes) × (t < n) × (length (now dist) ≡ mostNodes) × (length (now path) ≡ mostNodes) × IsGraph n (adjacency (now ends) (now weights) (now next) (now heads)) ⌝ }
     ensures { λ r. ⌜ IsWayBack n (adjacency (now (ends .entry)) (now (weights .entry)) (now (next .entry)) (now (heads .entry))) (now (dist .entry)) s t (now (path .exit)) (wayIn (now (path .exit)) r) ⌝ }
 {
     let mut seen = [false; MOST_NODES];
@@ -87,7 +82,7 @@ pub fn way_back(
         let mut k = graph_adjacency::first_arc(heads, v);
         while k != 0 {
             if fits(ends, weights, dist, &seen, v, k) {
-                v = wide(ends[k - 1]);
+                v = widen::wide(ends[k - 1]);
                 continue 'back;
             }
             k = graph_adjacency::next_arc(next, heads, v, k);

@@ -10,6 +10,7 @@ use lib.ListN.{length, getD, take, replicate}
 use lib.Seq.{sets}
 use lib.Dec.{ltb}
 use lib.Ieee.{Float}
+use Rattle.limits.specs.Limits.{mostNodes, lineRoom}
 use Rattle.drawing_spec.specs.Drawing.{Point, Settings}
 use Rattle.drawing_spec.specs.Members.{All}
 use Rattle.drawing_spec.proofs.Members.{in-all, all-imp}
@@ -29,18 +30,18 @@ use Rattle.graph_edge_arrays.specs.Held.{EndsHeld}
 use Rattle.graph_odd.specs.Degrees.{EndsBelow}
 use Rattle.graph_odd.proofs.Degrees.{held-below}
 use Rattle.graph_odd.proofs.Listed.{odd-few}
-use Rattle.graph_node_points.specs.Line.{nodeRoom, lineRoom, Nodes}
+use Rattle.graph_node_points.specs.Line.{Nodes}
 use Rattle.graph_node_points.proofs.Line.{listed-take, listed-at, all-at, listed-nodes}
 use Rattle.walk_start.specs.Best.{Best}
 use Rattle.walk.specs.Walk.{Edges, Walk}
 
 -- whoever has the flat lists of a graph's edges has them
-ends-of : (n : ℕ) (es : List Edge) → n ≤ nodeRoom → Inside n es → Ends es
+ends-of : (n : ℕ) (es : List Edge) → n ≤ mostNodes → Inside n es → Ends es
 unfolding Ends
 ends-of n [] room i = tt
 ends-of n (e ∷ es) room i = (omega (arith, i e (inl refl) .0), omega (arith, i e (inl refl) .1), ends-of n es room (λ x k. i x (inr k)))
 
-pub edges-given : (n : ℕ) (es : List Edge) (ends nexts heads : List ℕ) (weights : List Float) (m : ℕ) → adjacency ends weights nexts heads ≡ lists es → length es ≡ m → m ≤ 4001 → n ≤ nodeRoom
+pub edges-given : (n : ℕ) (es : List Edge) (ends nexts heads : List ℕ) (weights : List Float) (m : ℕ) → adjacency ends weights nexts heads ≡ lists es → length es ≡ m → m ≤ 4001 → n ≤ mostNodes
     → Inside n es → Edges n ends nexts heads m
 edges-given n es ends nexts heads weights m is count few room i = record { es = es; holds = record { weights = weights; is = is; count = count; few = few; ends-in = ends-of n es room i }; inside = i }
 
@@ -76,7 +77,7 @@ with-few es (suc k) v = go (ltb 0 (degree es v)) (with-few es k (suc v))
 
 -- ---- the candidates
 
-module _ (n : ℕ) (ends nexts heads : List ℕ) (m : ℕ) (room : n ≤ nodeRoom) where
+module _ (n : ℕ) (ends nexts heads : List ℕ) (m : ℕ) (room : n ≤ mostNodes) where
   ends-held : (es : List Edge) → Holds es ends nexts heads m → Inside n es → EndsHeld n es ends
   ends-held es h i = record { few = omega (arith, h .count, h .few); room = room; inside = i; ends-are = ap (λ (g : Adjacency). g .ends) (sym (h .is)) }
 
@@ -97,58 +98,58 @@ module _ (n : ℕ) (ends nexts heads : List ℕ) (m : ℕ) (room : n ≤ nodeRoo
   abbrev pub WithListed : List ℕ → List ℕ → ℕ → Type 0
   WithListed before with r = (es : List Edge) (ends' nexts' : List ℕ) (m' : ℕ) → Holds es ends' nexts' heads m' → (with ≡ sets before 0 (withEdges es n 0)) × (r ≡ length (withEdges es n 0))
 
-  odd-below : (es : List Edge) → All (λ (v : ℕ). v < nodeRoom) (oddNodes n es)
+  odd-below : (es : List Edge) → All (λ (v : ℕ). v < mostNodes) (oddNodes n es)
   odd-below es = in-all _ (oddNodes n es) (λ v i. omega (arith, oddNodes-member n es v .0 i .0))
 
-  with-below : (es : List Edge) → All (λ (v : ℕ). v < nodeRoom) (withEdges es n 0)
+  with-below : (es : List Edge) → All (λ (v : ℕ). v < mostNodes) (withEdges es n 0)
   with-below es = all-imp _ _ (λ v h. omega (arith, h)) (withEdges es n 0) (withEdges-within es n 0 n (zero-add n))
 
-  module _ (before odd : List ℕ) (r : ℕ) (none : before ≡ replicate nodeRoom 0) (o : OddListed before odd r) where
-    odd-is : (es : List Edge) → Holds es ends nexts heads m → Inside n es → odd ≡ sets (replicate nodeRoom 0) 0 (oddNodes n es)
+  module _ (before odd : List ℕ) (r : ℕ) (none : before ≡ replicate mostNodes 0) (o : OddListed before odd r) where
+    odd-is : (es : List Edge) → Holds es ends nexts heads m → Inside n es → odd ≡ sets (replicate mostNodes 0) 0 (oddNodes n es)
     odd-is es h i = o es (ends-held es h i) (h .count) .0 ∙ ap (λ (l : List ℕ). sets l 0 (oddNodes n es)) none
 
     odd-count : (es : List Edge) → Holds es ends nexts heads m → Inside n es → r ≡ length (oddNodes n es)
     odd-count es h i = o es (ends-held es h i) (h .count) .1
 
-    odd-fits : (es : List Edge) → length (oddNodes n es) ≤ nodeRoom
+    odd-fits : (es : List Edge) → length (oddNodes n es) ≤ mostNodes
     odd-fits es = omega (arith, odd-few n es)
 
-    pub odd-candidates : Edges n ends nexts heads m → Nodes nodeRoom odd r
+    pub odd-candidates : Edges n ends nexts heads m → Nodes mostNodes odd r
     odd-candidates e = listed-nodes (oddNodes n (e .es)) odd r (odd-fits (e .es)) (odd-below (e .es)) (odd-is (e .es) (e .holds) (e .inside)) (odd-count (e .es) (e .holds) (e .inside))
 
     -- wherever the list is read
-    pub odd-node : Edges n ends nexts heads m → (j : ℕ) → getD odd j 0 < nodeRoom
+    pub odd-node : Edges n ends nexts heads m → (j : ℕ) → getD odd j 0 < mostNodes
     odd-node e j =
         omega (
           arith,
           ap (λ (l : List ℕ). getD l j 0) (odd-is (e .es) (e .holds) (e .inside)),
-          listed-at nodeRoom (oddNodes n (e .es)) (odd-fits (e .es)) j,
-          all-at (λ (v : ℕ). v < nodeRoom) (oddNodes n (e .es)) (omega arith) (odd-below (e .es)) j,
+          listed-at mostNodes (oddNodes n (e .es)) (odd-fits (e .es)) j,
+          all-at (λ (v : ℕ). v < mostNodes) (oddNodes n (e .es)) (omega arith) (odd-below (e .es)) j,
         )
 
     -- the list of odd nodes, read back
     odd-back : (es : List Edge) → Holds es ends nexts heads m → Inside n es → take r odd ≡ oddNodes n es
-    odd-back es h i = ap₂ (λ (k : ℕ) (l : List ℕ). take k l) (odd-count es h i) (odd-is es h i) ∙ listed-take nodeRoom (oddNodes n es) (odd-fits es)
+    odd-back es h i = ap₂ (λ (k : ℕ) (l : List ℕ). take k l) (odd-count es h i) (odd-is es h i) ∙ listed-take mostNodes (oddNodes n es) (odd-fits es)
 
     -- where there is none, the array is as it was, and lists the nodes with edges next
     module _ (zero-odd : r ≡ 0) (with : List ℕ) (count : ℕ) (w : WithListed odd with count) where
       no-odd : (es : List Edge) → Holds es ends nexts heads m → Inside n es → oddNodes n es ≡ []
       no-odd es h i = no-length (oddNodes n es) (sym (odd-count es h i) ∙ zero-odd)
 
-      with-is : (es : List Edge) → Holds es ends nexts heads m → Inside n es → with ≡ sets (replicate nodeRoom 0) 0 (withEdges es n 0)
-      with-is es h i = w es ends nexts m h .0 ∙ ap (λ (l : List ℕ). sets l 0 (withEdges es n 0)) (odd-is es h i ∙ ap (sets (replicate nodeRoom 0) 0) (no-odd es h i))
+      with-is : (es : List Edge) → Holds es ends nexts heads m → Inside n es → with ≡ sets (replicate mostNodes 0) 0 (withEdges es n 0)
+      with-is es h i = w es ends nexts m h .0 ∙ ap (λ (l : List ℕ). sets l 0 (withEdges es n 0)) (odd-is es h i ∙ ap (sets (replicate mostNodes 0) 0) (no-odd es h i))
 
       with-count : (es : List Edge) → Holds es ends nexts heads m → count ≡ length (withEdges es n 0)
       with-count es h = w es ends nexts m h .1
 
-      with-fits : (es : List Edge) → length (withEdges es n 0) ≤ nodeRoom
+      with-fits : (es : List Edge) → length (withEdges es n 0) ≤ mostNodes
       with-fits es = omega (arith, with-few es n 0)
 
-      pub with-candidates : Edges n ends nexts heads m → Nodes nodeRoom with count
+      pub with-candidates : Edges n ends nexts heads m → Nodes mostNodes with count
       with-candidates e = listed-nodes (withEdges (e .es) n 0) with count (with-fits (e .es)) (with-below (e .es)) (with-is (e .es) (e .holds) (e .inside)) (with-count (e .es) (e .holds))
 
       with-back : (es : List Edge) → Holds es ends nexts heads m → Inside n es → take count with ≡ withEdges es n 0
-      with-back es h i = ap₂ (λ (k : ℕ) (l : List ℕ). take k l) (with-count es h) (with-is es h i) ∙ listed-take nodeRoom (withEdges es n 0) (with-fits es)
+      with-back es h i = ap₂ (λ (k : ℕ) (l : List ℕ). take k l) (with-count es h) (with-is es h i) ∙ listed-take mostNodes (withEdges es n 0) (with-fits es)
 
       pub walk-closed : (width height : ℕ) (inner : Bool) (xs ys : List ℕ) (start k : ℕ) (line : List ℕ) → 0 < n → Best width height inner xs ys with count start
           → euler.Line ends nexts heads m (euler.closedLine start) k line → Walk width height inner xs ys n ends nexts heads m k line
@@ -168,7 +169,7 @@ module _ (n : ℕ) (ends nexts heads : List ℕ) (m : ℕ) (room : n ≤ nodeRoo
     walk-open width height inner xs ys u v start k line some two hu hv b l = record {
       is = λ s ns es g.
           let read : (j : ℕ) → getD odd j 0 ≡ getD (oddNodes n es) j 0 =
-          λ j. ap (λ (q : List ℕ). getD q j 0) (odd-is es (g .holds) (g .inside)) ∙ listed-at nodeRoom (oddNodes n es) (odd-fits es) j in
+          λ j. ap (λ (q : List ℕ). getD q j 0) (odd-is es (g .holds) (g .inside)) ∙ listed-at mostNodes (oddNodes n es) (odd-fits es) j in
           l .is es (g .holds)
           ∙ go s ns es (oddNodes n es) (ap (λ (q : ℕ). oddNodes q es) (g .count)) (odd-count es (g .holds) (g .inside)) (hu ∙ read 0) (hv ∙ read 1)
           (b .is s ns (g .drawn) ∙ ap (best s ns) (odd-back es (g .holds) (g .inside)))

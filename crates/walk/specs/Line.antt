@@ -4,10 +4,11 @@ use mathlib.Core.List.{List}
 use mathlib.Core.Bool.{Bool}
 use Prim.Native.Nat.{ℕ}
 use lib.ListN.{length}
+use Rattle.limits.specs.Limits.{lineRoom}
 use Rattle.drawing_spec.specs.Drawing.{Point, Settings}
 use Rattle.graph_spec.specs.Graph.{Edge}
 use Rattle.walk_spec.specs.Line.{lineOf}
-use Rattle.graph_node_points.specs.Line.{lineRoom, Nodes, pointsOf}
+use Rattle.graph_node_points.specs.Line.{Nodes, pointsOf}
 use Rattle.walk.specs.Walk.{Given}
 
 -- r nodes, whose points are the line of whatever graph the arrays hold

@@ -4,6 +4,7 @@ use mathlib.Core.List.{List}
 use mathlib.Core.Bool.{Bool}
 use Prim.Native.Nat.{ℕ}
 use lib.ListN.{length, take}
+use Rattle.limits.specs.Limits.{lineRoom}
 use Rattle.drawing_spec.specs.Drawing.{Point, Settings}
 use Rattle.graph_spec.specs.Graph.{Edge}
 use Rattle.graph_spec.specs.Ways.{Inside}
@@ -11,7 +12,7 @@ use Rattle.walk_spec.specs.Line.{hierholzer}
 use Rattle.walk_circuit.specs.Standing.{Holds}
 use Rattle.walk_euler.specs.Euler as euler
 use Rattle.graph_node_points.specs.Points.{Drawn}
-use Rattle.graph_node_points.specs.Line.{lineRoom, Nodes}
+use Rattle.graph_node_points.specs.Line.{Nodes}
 
 -- the arrays hold the graph and the settings
 pub record Given (s : Settings) (ns : List Point) (es : List Edge) (width height : ℕ) (inner : Bool) (xs ys : List ℕ) (n : ℕ) (ends nexts heads : List ℕ) (m : ℕ) : Type 0 where

@@ -6,8 +6,9 @@ use native.Mathlib.Numerals.{add-one}
 use native.Mathlib.Omega.{arith}
 use lib.ListN.{length, getD, set}
 use lib.Seq.{getD-set-same, getD-set-other}
+use Rattle.limits.specs.Limits.{lineRoom}
 use Rattle.walk_spec.specs.Walk.{By, Entry}
-use Rattle.walk_circuit.specs.Entries.{byOf, entriesFrom, entriesOf, entryOf, entryRoom}
+use Rattle.walk_circuit.specs.Entries.{byOf, entriesFrom, entriesOf, entryOf}
 
 pub by-edge : (i : ℕ) → byOf (i + 1) ≡ By.edge i
 unfolding byOf
@@ -50,13 +51,13 @@ module _ (ns bs : List ℕ) where
       one x = refl
 
   -- an entry in front of those taken off
-  pub entries-put : (p v b : ℕ) → 0 < p → p ≤ entryRoom → p - 1 < length ns → p - 1 < length bs
+  pub entries-put : (p v b : ℕ) → 0 < p → p ≤ lineRoom → p - 1 < length ns → p - 1 < length bs
       → entriesFrom (p - 1) (set ns (p - 1) v) (set bs (p - 1) b) ≡ entryOf v b ∷ entriesFrom p ns bs
   unfolding entriesOf
   entries-put p v b h l i j =
-      let more : entryRoom - (p - 1) ≡ suc (entryRoom - p) = omega arith in
+      let more : lineRoom - (p - 1) ≡ suc (lineRoom - p) = omega arith in
       let on : suc (p - 1) ≡ p = omega arith in
-      ap (λ (x : ℕ). entriesOf x (p - 1) (set ns (p - 1) v) (set bs (p - 1) b)) more ∙ one (entryRoom - p) (p - 1) p on i j
+      ap (λ (x : ℕ). entriesOf x (p - 1) (set ns (p - 1) v) (set bs (p - 1) b)) more ∙ one (lineRoom - p) (p - 1) p on i j
     where
       one : (n q r : ℕ) → suc q ≡ r → q < length ns → q < length bs → entriesOf (suc n) q (set ns q v) (set bs q b) ≡ entryOf v b ∷ entriesOf n r ns bs
       one n q r e x y = rw (getD-set-same ns q v 0 x, getD-set-same bs q b 0 y, e) (ap (λ (l : List Entry). entryOf v b ∷ l) (entries-other n r q v b (omega arith)))

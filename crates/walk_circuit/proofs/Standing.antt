@@ -10,18 +10,19 @@ use native.Mathlib.Decide.{ℕ-discrete}
 use native.Mathlib.Omega.{arith}
 use lib.ListN.{length, getD, set, take, replicate, length-set, length-replicate}
 use lib.Seq.{getD-set-same, getD-set-other, getD-take, take-set-lt}
+use Rattle.limits.specs.Limits.{mostNodes, lineRoom}
 use Rattle.graph_spec.specs.Graph.{Edge, edgesAt}
 use Rattle.graph_spec.specs.Ways.{Joins}
 use Rattle.drawing_spec.specs.Members.{In}
 use Rattle.graph_spec.proofs.EdgesAt.{edgeAt, edgeAt-in}
-use Rattle.graph_adjacency.specs.Lists.{Adjacency, adjacency, lists, nodeRoom, firstArc, edgeNumber}
+use Rattle.graph_adjacency.specs.Lists.{Adjacency, adjacency, lists, firstArc, edgeNumber}
 use Rattle.graph_adjacency.specs.Follow.{Ends, Follows}
 use Rattle.graph_adjacency.proofs.Follow.{lists-follow}
 use Rattle.walk_spec.specs.Walk.{By, Entry, Next, spent, along, next, walk, circuit}
 use Rattle.walk_spec.proofs.Free.{allSum, freeSum, freeSum-use, freeSum-all}
 use Rattle.walk_spec.proofs.Next.{Leads, Fits, next-fits}
 use Rattle.walk_circuit.proofs.Cursor.{Cursor, ArcThere, stays-set, cursor-first, cursor-later, cursor-none, cursor-free, cursor-arc}
-use Rattle.walk_circuit.specs.Entries.{entryRoom, byOf, entryOf, entriesOf, entriesFrom}
+use Rattle.walk_circuit.specs.Entries.{byOf, entryOf, entriesOf, entriesFrom}
 use Rattle.walk_circuit.proofs.Entries.{by-edge, stackOf, stack-other, entries-other, stack-push, stack-top, entries-put}
 use Rattle.walk_circuit.specs.Standing.{FirstArcs, Holds}
 
@@ -74,27 +75,27 @@ marksOf es used = take (length es) used
 pub record Standing (es : List Edge) (g : Adjacency) (s fuel : ℕ) (t : Stand) : Type 0 where
   pub same : walk fuel es (marksOf es (t .used)) (entryOf (t .node) (t .by)) (stackOf (t .depth) (t .nodes) (t .bys)) (entriesFrom (t .place) (t .nodes) (t .bys)) ≡ circuit es s
   -- each edge is unused, or entered an entry of the stack or one that was taken off
-  pub each : t .depth + unused es (marksOf es (t .used)) + (entryRoom - t .place) ≡ length es
-  pub place-in : t .place ≤ entryRoom
-  pub node-in : t .node < nodeRoom
-  pub below-in : (j : ℕ) → j < t .depth → getD (t .nodes) j 0 < nodeRoom
-  pub off-in : (j : ℕ) → t .place ≤ j → j < entryRoom → getD (t .nodes) j 0 < nodeRoom
+  pub each : t .depth + unused es (marksOf es (t .used)) + (lineRoom - t .place) ≡ length es
+  pub place-in : t .place ≤ lineRoom
+  pub node-in : t .node < mostNodes
+  pub below-in : (j : ℕ) → j < t .depth → getD (t .nodes) j 0 < mostNodes
+  pub off-in : (j : ℕ) → t .place ≤ j → j < lineRoom → getD (t .nodes) j 0 < mostNodes
   pub used-long : length (t .used) ≡ 4001
-  pub cursors-long : length (t .cursors) ≡ nodeRoom
-  pub nodes-long : length (t .nodes) ≡ entryRoom
-  pub bys-long : length (t .bys) ≡ entryRoom
-  pub cursors-are : (v : ℕ) → v < nodeRoom → Cursor g (edgesAt es v) (marksOf es (t .used)) v (getD (t .cursors) v 0)
+  pub cursors-long : length (t .cursors) ≡ mostNodes
+  pub nodes-long : length (t .nodes) ≡ lineRoom
+  pub bys-long : length (t .bys) ≡ lineRoom
+  pub cursors-are : (v : ℕ) → v < mostNodes → Cursor g (edgesAt es v) (marksOf es (t .used)) v (getD (t .cursors) v 0)
 
 -- What holds whatever the edges are: what the code's indices and casts need, and that of the entries which are taken off.
 pub record Within (m : ℕ) (nodes bys : List ℕ) (depth node place : ℕ) : Type 0 where
-  pub node-in : node < nodeRoom
+  pub node-in : node < mostNodes
   pub depth-in : depth ≤ 4001
   pub place-some : 0 < place
-  pub place-in : place ≤ entryRoom
-  pub few : entryRoom ≤ place + m
-  pub off-in : (j : ℕ) → place ≤ j → j < entryRoom → getD nodes j 0 < nodeRoom
-  pub nodes-long : length nodes ≡ entryRoom
-  pub bys-long : length bys ≡ entryRoom
+  pub place-in : place ≤ lineRoom
+  pub few : lineRoom ≤ place + m
+  pub off-in : (j : ℕ) → place ≤ j → j < lineRoom → getD nodes j 0 < mostNodes
+  pub nodes-long : length nodes ≡ lineRoom
+  pub bys-long : length bys ≡ lineRoom
 
 -- within the list, what stands beyond its end does not matter
 getD-default : (l : List Bool) (i : ℕ) (c d : Bool) → i < length l → getD l i c ≡ getD l i d
@@ -106,22 +107,22 @@ getD-default (b ∷ bs) (suc i) c d h = getD-default bs i c d (omega (arith, h))
 pub mark-is : (es : List Edge) (used : List Bool) (i : ℕ) → length used ≡ 4001 → length es ≤ 4001 → i < length es → getD used i false ≡ getD (marksOf es used) i true
 mark-is es used i l f h = getD-default used i false true (omega arith) ∙ sym (getD-take (length es) used i true h)
 
-ends-both : (es : List Edge) (e : Edge) → Ends es → In e es → (e .a < nodeRoom) × (e .b < nodeRoom)
+ends-both : (es : List Edge) (e : Edge) → Ends es → In e es → (e .a < mostNodes) × (e .b < mostNodes)
 unfolding Ends
 ends-both [] e n i = absurd i
 ends-both (x ∷ es) e n (inl p) = rw p (n .0, n .1)
 ends-both (x ∷ es) e n (inr i) = ends-both es e (n .2) i
 
-leads-in : (es : List Edge) (marks : List Bool) (u i v : ℕ) → Ends es → Leads es marks u i v → v < nodeRoom
+leads-in : (es : List Edge) (marks : List Bool) (u i v : ℕ) → Ends es → Leads es marks u i v → v < mostNodes
 leads-in es marks u i v n l = go (ends-both es (edgeAt es i) n (edgeAt-in es i (l .isEdge))) (l .joins)
   where
-    go : (edgeAt es i .a < nodeRoom) × (edgeAt es i .b < nodeRoom) → Joins (edgeAt es i) u v → v < nodeRoom
-    go b (inl j) = subst (λ (x : ℕ). x < nodeRoom) (j .1) (b .1)
-    go b (inr j) = subst (λ (x : ℕ). x < nodeRoom) (j .0) (b .0)
+    go : (edgeAt es i .a < mostNodes) × (edgeAt es i .b < mostNodes) → Joins (edgeAt es i) u v → v < mostNodes
+    go b (inl j) = subst (λ (x : ℕ). x < mostNodes) (j .1) (b .1)
+    go b (inr j) = subst (λ (x : ℕ). x < mostNodes) (j .0) (b .0)
 
 -- one entry more that was taken off
-pub off-more : (nodes : List ℕ) (node place : ℕ) → node < nodeRoom → ((j : ℕ) → place ≤ j → j < entryRoom → getD nodes j 0 < nodeRoom)
-    → place - 1 < length nodes → (j : ℕ) → place - 1 ≤ j → j < entryRoom → getD (set nodes (place - 1) node) j 0 < nodeRoom
+pub off-more : (nodes : List ℕ) (node place : ℕ) → node < mostNodes → ((j : ℕ) → place ≤ j → j < lineRoom → getD nodes j 0 < mostNodes)
+    → place - 1 < length nodes → (j : ℕ) → place - 1 ≤ j → j < lineRoom → getD (set nodes (place - 1) node) j 0 < mostNodes
 off-more nodes node place n off l j h i = elim (ℕ-discrete j (place - 1)) [
   | yes e ↦ rw (e, getD-set-same nodes (place - 1) node 0 l) n
   | no a ↦ rw (getD-set-other nodes (place - 1) j node 0 a) (off j (omega (arith, h, a)) i)
@@ -129,9 +130,9 @@ off-more nodes node place n off l j h i = elim (ℕ-discrete j (place - 1)) [
 
 module _ (es : List Edge) (g : Adjacency) (s : ℕ) (few : length es ≤ 4001) (inside : Ends es) where
   -- a cursor moved on
-  moved-are : (marks : List Bool) (cursors : List ℕ) (u k : ℕ) → length cursors ≡ nodeRoom → Cursor g (edgesAt es u) marks u k
-      → ((v : ℕ) → v < nodeRoom → Cursor g (edgesAt es v) marks v (getD cursors v 0))
-      → (v : ℕ) → v < nodeRoom → Cursor g (edgesAt es v) marks v (getD (set cursors u k) v 0)
+  moved-are : (marks : List Bool) (cursors : List ℕ) (u k : ℕ) → length cursors ≡ mostNodes → Cursor g (edgesAt es u) marks u k
+      → ((v : ℕ) → v < mostNodes → Cursor g (edgesAt es v) marks v (getD cursors v 0))
+      → (v : ℕ) → v < mostNodes → Cursor g (edgesAt es v) marks v (getD (set cursors u k) v 0)
   moved-are marks cursors u k l c are v h = elim (ℕ-discrete v u) [
     | yes e ↦ rw (e, getD-set-same cursors u k 0 (omega arith)) c
     | no n ↦ rw (getD-set-other cursors u v k 0 n) (are v h)
@@ -161,7 +162,7 @@ module _ (es : List Edge) (g : Adjacency) (s : ℕ) (few : length es ≤ 4001) (
               marks-now,
               by-edge,
               stack-push (t .nodes) (t .bys) (t .depth) (t .node) (t .by) d-nodes d-bys,
-              entries-other (t .nodes) (t .bys) (entryRoom - t .place) (t .place) (t .depth) (t .node) (t .by) d-in,
+              entries-other (t .nodes) (t .bys) (lineRoom - t .place) (t .place) (t .depth) (t .node) (t .by) d-in,
             )
             (sym (walk-along es marks (entryOf (t .node) (t .by)) fuel _ _ i v is) ∙ w .same);
         each = rw marks-now (omega (arith, w .each, count));
@@ -177,7 +178,7 @@ module _ (es : List Edge) (g : Adjacency) (s : ℕ) (few : length es ≤ 4001) (
             (moved-are marks (t .cursors) (t .node) k (w .cursors-long) c (w .cursors-are) u h));
       }
     where
-      below : (j : ℕ) → j < t .depth + 1 → getD (set (t .nodes) (t .depth) (t .node)) j 0 < nodeRoom
+      below : (j : ℕ) → j < t .depth + 1 → getD (set (t .nodes) (t .depth) (t .node)) j 0 < mostNodes
       below j h = elim (ℕ-discrete j (t .depth)) [
         | yes e ↦ rw (e, getD-set-same (t .nodes) (t .depth) (t .node) 0 (omega (arith, w .nodes-long, w .each, few))) (w .node-in)
         | no n ↦ rw (getD-set-other (t .nodes) (t .depth) j (t .node) 0 n) (w .below-in j (omega (arith, h, n)))
@@ -213,7 +214,7 @@ module _ (es : List Edge) (g : Adjacency) (s : ℕ) (few : length es ≤ 4001) (
         cursors-are = moved-are marks (t .cursors) (t .node) 0 (w .cursors-long) c (w .cursors-are);
       }
     where
-      off : t .place - 1 < length (t .nodes) → (j : ℕ) → t .place - 1 ≤ j → j < entryRoom → getD (set (t .nodes) (t .place - 1) (t .node)) j 0 < nodeRoom
+      off : t .place - 1 < length (t .nodes) → (j : ℕ) → t .place - 1 ≤ j → j < lineRoom → getD (set (t .nodes) (t .place - 1) (t .node)) j 0 < mostNodes
       off = off-more (t .nodes) (t .node) (t .place) (w .node-in) (w .off-in)
 
   -- where the node in hand is the only one, or the steps are used up, it is the first of the circuit
@@ -249,10 +250,10 @@ unfolding allSum
 all-unused [] i = refl
 all-unused (e ∷ es) i = omega (arith, all-unused es (suc i))
 
-pub first-arcs-none : (heads : List ℕ) → FirstArcs heads 0 (replicate nodeRoom 0)
-first-arcs-none heads = record { long = length-replicate {A = ℕ} nodeRoom 0; are = λ v h. absurd (not-suc-le-zero h) }
+pub first-arcs-none : (heads : List ℕ) → FirstArcs heads 0 (replicate mostNodes 0)
+first-arcs-none heads = record { long = length-replicate {A = ℕ} mostNodes 0; are = λ v h. absurd (not-suc-le-zero h) }
 
-pub first-arcs-more : (heads : List ℕ) (n : ℕ) (arcs : List ℕ) (k : ℕ) → n < nodeRoom → k ≡ firstArc heads n → FirstArcs heads n arcs → FirstArcs heads (n + 1) (set arcs n k)
+pub first-arcs-more : (heads : List ℕ) (n : ℕ) (arcs : List ℕ) (k : ℕ) → n < mostNodes → k ≡ firstArc heads n → FirstArcs heads n arcs → FirstArcs heads (n + 1) (set arcs n k)
 first-arcs-more heads n arcs k h e f = record {
   long = simp length-set (f .long);
   are = λ v l. elim (ℕ-discrete v n) [
@@ -261,16 +262,16 @@ first-arcs-more heads n arcs k h e f = record {
   ];
 }
 
-pub first-arcs-all : (heads : List ℕ) (n : ℕ) (arcs : List ℕ) → nodeRoom ≤ n → FirstArcs heads n arcs → FirstArcs heads nodeRoom arcs
+pub first-arcs-all : (heads : List ℕ) (n : ℕ) (arcs : List ℕ) → mostNodes ≤ n → FirstArcs heads n arcs → FirstArcs heads mostNodes arcs
 first-arcs-all heads n arcs h f = record { long = f .long; are = λ v l. f .are v (omega arith) }
 
-holds-follow : (es : List Edge) (g : Adjacency) (v : ℕ) → g ≡ lists es → length es ≤ 4001 → Ends es → v < nodeRoom → Follows g v (firstArc (g .heads) v) (edgesAt es v)
+holds-follow : (es : List Edge) (g : Adjacency) (v : ℕ) → g ≡ lists es → length es ≤ 4001 → Ends es → v < mostNodes → Follows g v (firstArc (g .heads) v) (edgesAt es v)
 holds-follow es g v e few inside h = subst (λ (x : Adjacency). Follows x v (firstArc (x .heads) v) (edgesAt es v)) (sym e) (lists-follow es v few inside h)
 
 -- at the start
-pub start-stands : (es : List Edge) (ends nexts heads : List ℕ) (m : ℕ) (h : Holds es ends nexts heads m) (s : ℕ) (arcs nodes bys : List ℕ) → FirstArcs heads nodeRoom arcs → s < nodeRoom
-    → length nodes ≡ entryRoom → length bys ≡ entryRoom
-    → Standing es (adjacency ends (h .weights) nexts heads) s (2 * m + 1) (stand (replicate 4001 false) arcs nodes bys 0 s 0 entryRoom)
+pub start-stands : (es : List Edge) (ends nexts heads : List ℕ) (m : ℕ) (h : Holds es ends nexts heads m) (s : ℕ) (arcs nodes bys : List ℕ) → FirstArcs heads mostNodes arcs → s < mostNodes
+    → length nodes ≡ lineRoom → length bys ≡ lineRoom
+    → Standing es (adjacency ends (h .weights) nexts heads) s (2 * m + 1) (stand (replicate 4001 false) arcs nodes bys 0 s 0 lineRoom)
 unfolding circuit byOf stackOf entriesOf
 start-stands es ends nexts heads m h s arcs nodes bys f ls ln lb =
     let few : length es ≤ 4001 = omega (arith, h .few, h .count) in

@@ -5,11 +5,12 @@ use mathlib.Core.Bool.{true, false}
 use Prim.Native.Nat.{ℕ, _+_, _-_, _*_, _≤_, _<_}
 use native.Mathlib.Omega.{arith}
 use lib.ListN.{length, getD, set, replicate, length-set}
+use Rattle.limits.specs.Limits.{mostNodes, lineRoom}
 use Rattle.graph_spec.specs.Graph.{Edge, edgesAt}
-use Rattle.graph_adjacency.specs.Lists.{Adjacency, adjacency, nodeRoom, nextArc, edgeNumber}
+use Rattle.graph_adjacency.specs.Lists.{Adjacency, adjacency, nextArc, edgeNumber}
 use Rattle.walk_spec.specs.Walk.{circuit}
 use Rattle.walk_circuit.proofs.Cursor.{Cursor, cursor-pass, cursor-arc}
-use Rattle.walk_circuit.specs.Entries.{entryRoom, entryOf, entriesFrom}
+use Rattle.walk_circuit.specs.Entries.{entryOf, entriesFrom}
 use Rattle.walk_circuit.proofs.Entries.{entries-put}
 use Rattle.walk_circuit.specs.Standing.{Holds, FirstArcs}
 use Rattle.walk_circuit.proofs.Standing.{Stand, stand, Standing, Within, marksOf, mark-is, off-more, push-stands, pop-stands, over-by, out-by, stands-within, start-stands}
@@ -101,6 +102,6 @@ module _ (ends nexts heads : List ℕ) (m : ℕ) where
         bys-long = simp length-set (w .bys-long);
       }
 
-  pub start-walks : (s : ℕ) (arcs nodes bys : List ℕ) → FirstArcs heads nodeRoom arcs → s < nodeRoom → length nodes ≡ entryRoom → length bys ≡ entryRoom
-      → Walks s (2 * m + 1) (stand (replicate 4001 false) arcs nodes bys 0 s 0 entryRoom)
+  pub start-walks : (s : ℕ) (arcs nodes bys : List ℕ) → FirstArcs heads mostNodes arcs → s < mostNodes → length nodes ≡ lineRoom → length bys ≡ lineRoom
+      → Walks s (2 * m + 1) (stand (replicate 4001 false) arcs nodes bys 0 s 0 lineRoom)
   start-walks s arcs nodes bys f ls ln lb es h = start-stands es ends nexts heads m h s arcs nodes bys f ls ln lb

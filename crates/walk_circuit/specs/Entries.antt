@@ -2,11 +2,8 @@
 use mathlib.Core.List.{List, [], _∷_}
 use Prim.Native.Nat.{ℕ, zero, suc, _-_}
 use lib.ListN.{getD}
+use Rattle.limits.specs.Limits.{lineRoom}
 use Rattle.walk_spec.specs.Walk.{By, start, Entry}
-
--- room for an entry by each edge, and for the first one
-abbrev pub entryRoom : ℕ
-entryRoom = 4002
 
 -- 0 is the start, i + 1 is the edge i
 unfoldable pub byOf : ℕ → By
@@ -23,4 +20,4 @@ entriesOf (suc n) p ns bs = entryOf (getD ns p 0) (getD bs p 0) ∷ entriesOf n 
 
 -- the entries from the place p to the end
 abbrev pub entriesFrom : ℕ → List ℕ → List ℕ → List Entry
-entriesFrom p ns bs = entriesOf (entryRoom - p) p ns bs
+entriesFrom p ns bs = entriesOf (lineRoom - p) p ns bs

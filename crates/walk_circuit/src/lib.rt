@@ -3,6 +3,7 @@
 ghost use mathlib.Core.Path.{_≡_};
 ghost use Prim.Native.Nat.{_<_};
 ghost use lib.ListN.{length};
+ghost use Rattle.limits.specs.Limits.{mostNodes, lineRoom};
 ghost use Rattle.graph_adjacency.specs.Lists.{firstArc};
 ghost use Rattle.walk_circuit.specs.Standing.{FirstArcs};
 ghost use Rattle.walk_circuit.specs.Walks.{Some, Walked};
@@ -12,15 +13,9 @@ use limits::MOST_NODES;
 // An entry by each edge, and the first one.
 pub const ENTRY_ROOM: usize = EDGE_ROOM + 1;
 
-fn wide(x: u16) -> usize
-    ensures { λ r. ⌜ r ≡ x ⌝ }
-{
-    x as usize
-}
-
 // The first arc of a node; 0 where it has none.
 fn first_of(heads: &[u16; 2 * MOST_NODES], v: usize) -> u16
-    requires { ⌜ v < 1534 ⌝ }
+    requires { ⌜ v < mostNodes ⌝ }
     ensures { λ r. ⌜ r ≡ firstArc (now (heads .entry)) v ⌝ }
 {
     let head = heads[v];
@@ -32,7 +27,7 @@ fn first_of(heads: &[u16; 2 * MOST_NODES], v: usize) -> u16
 
 // The first arc of each node.
 fn first_arcs(heads: &[u16; 2 * MOST_NODES]) -> [u16; MOST_NODES]
-    ensures { λ r. ⌜ FirstArcs (now (heads .entry)) 1534 r ⌝ }
+    ensures { λ r. ⌜ FirstArcs (now (heads .entry)) mostNodes r ⌝ }
 {
     let mut arcs = [0; MOST_NODES];
     let mut v = 0;
@@ -55,8 +50,8 @@ pub fn circuit(
     nodes: &mut [u16; ENTRY_ROOM],
     bys: &mut [u16; ENTRY_ROOM],
 ) -> usize
-    requires start { ⌜ s < 1534 ⌝ }
-    requires room { ⌜ (length (now nodes) ≡ 4002) × (length (now bys) ≡ 4002) ⌝ }
+    requires start { ⌜ s < mostNodes ⌝ }
+    requires room { ⌜ (length (now nodes) ≡ lineRoom) × (length (now bys) ≡ lineRoom) ⌝ }
     requires edges { ⌜ Some (now ends) (now next) (now heads) m ⌝ }
     ensures { λ r. ⌜ Walked (now (ends .entry)) (now (next .entry)) (now (heads .entry)) m s r (now (nodes .exit)) (now (bys .exit)) ⌝ }
 {
@@ -69,7 +64,7 @@ pub fn circuit(
     let mut fuel = 2 * m + 1;
     'walk: while 0 < fuel {
         fuel -= 1;
-        let mut k = wide(cursors[node]);
+        let mut k = widen::wide(cursors[node]);
         while 0 < k {
             let i = graph_adjacency::edge_number(k);
             if !used[i] {
@@ -78,7 +73,7 @@ pub fn circuit(
                 nodes[depth] = node as u16;
                 bys[depth] = by;
                 depth += 1;
-                node = wide(ends[k - 1]);
+                node = widen::wide(ends[k - 1]);
                 by = (i + 1) as u16;
                 continue 'walk;
             }
@@ -90,7 +85,7 @@ pub fn circuit(
         cursors[node] = 0;
         place -= 1;
         depth -= 1;
-        let below = wide(nodes[depth]);
+        let below = widen::wide(nodes[depth]);
         let entered = bys[depth];
         nodes[place] = node as u16;
         bys[place] = by;

@@ -6,20 +6,20 @@ use native.Mathlib.Numerals.{add-one}
 use native.Mathlib.Omega.{arith}
 use lib.ListN.{length, getD, set, take, length-set}
 use lib.Seq.{take-suc-set, getD-take}
-use Rattle.walk_circuit.specs.Entries.{entryRoom}
+use Rattle.limits.specs.Limits.{lineRoom}
 use Rattle.walk_cut.specs.Copy.{Copy, Copying, placesOf}
 
 -- what the copy still gives is the same
 pub record Copied (ns : List ℕ) (p₀ q : ℕ) (line₀ : List ℕ) (n₀ : ℕ) (p : ℕ) (line : List ℕ) (n : ℕ) : Type 0 where
   pub same : Copying ns p q line n ≡ Copying ns p₀ q line₀ n₀
   pub count : n + (q - p) ≡ n₀ + (q - p₀)
-  pub long : length line ≡ entryRoom
+  pub long : length line ≡ lineRoom
 
 module _ (ns : List ℕ) (p₀ q : ℕ) (line₀ : List ℕ) (n₀ : ℕ) where
-  pub copied-none : length line₀ ≡ entryRoom → Copied ns p₀ q line₀ n₀ p₀ line₀ n₀
+  pub copied-none : length line₀ ≡ lineRoom → Copied ns p₀ q line₀ n₀ p₀ line₀ n₀
   copied-none l = record { same = refl; count = refl; long = l }
 
-  pub copied-more : (p : ℕ) (line : List ℕ) (n : ℕ) → p < q → n < entryRoom → Copied ns p₀ q line₀ n₀ p line n → Copied ns p₀ q line₀ n₀ (p + 1) (set line n (getD ns p 0)) (n + 1)
+  pub copied-more : (p : ℕ) (line : List ℕ) (n : ℕ) → p < q → n < lineRoom → Copied ns p₀ q line₀ n₀ p line n → Copied ns p₀ q line₀ n₀ (p + 1) (set line n (getD ns p 0)) (n + 1)
   unfolding placesOf
   copied-more p line n h l c =
       let room : n < length line = omega (arith, c .long) in

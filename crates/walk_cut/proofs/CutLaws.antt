@@ -9,9 +9,10 @@ use native.Mathlib.Numerals.{add-one}
 use native.Mathlib.Omega.{arith}
 use lib.ListN.{getD, drop}
 use borrow.Author.Tests.{eq-eqb, ne-eqb}
+use Rattle.limits.specs.Limits.{lineRoom}
 use Rattle.walk_spec.specs.Walk.{Entry}
 use Rattle.walk_spec.specs.Line.{isBy, cutAt}
-use Rattle.walk_circuit.specs.Entries.{entryRoom, byOf, entryOf, entriesOf, entriesFrom}
+use Rattle.walk_circuit.specs.Entries.{byOf, entryOf, entriesOf, entriesFrom}
 use Rattle.walk_cut.specs.Copy.{placesOf, Copy}
 use Rattle.walk_cut.proofs.CopyLaws.{below-append, places-below, taken-below, copy-below}
 use Rattle.walk_cut.specs.Cut.{Cut, EnteredAt, cutLine, nodesOf}
@@ -62,11 +63,11 @@ module _ (ns bs : List ℕ) where
     cut-end b = refl
 
     -- no entry was entered by the edge
-    pub cut-none : (first r : ℕ) → entryRoom ≤ r → EnteredAt bs first (i + 1) r → cutLine i first ns bs ≡ placesOf (entryRoom - first) first ns
+    pub cut-none : (first r : ℕ) → lineRoom ≤ r → EnteredAt bs first (i + 1) r → cutLine i first ns bs ≡ placesOf (lineRoom - first) first ns
     cut-none first r h f =
         ap nodesOf (ap (cutAt i []) (sym (append-nil (entriesFrom first ns bs)))
-        ∙ cut-passed (entryRoom - first) first [] [] (λ j l k. f .before j l (omega (arith, k, h, f .from, f .within))) (λ (l : List Entry). l) cut-end)
-        ∙ entries-nodes (entryRoom - first) first
+        ∙ cut-passed (lineRoom - first) first [] [] (λ j l k. f .before j l (omega (arith, k, h, f .from, f .within))) (λ (l : List Entry). l) cut-end)
+        ∙ entries-nodes (lineRoom - first) first
 
     drop-first : (n p : ℕ) → drop 1 (entriesOf n p ns bs) ≡ entriesOf (n - 1) (p + 1) ns bs
     unfolding entriesOf
@@ -74,12 +75,12 @@ module _ (ns bs : List ℕ) where
     drop-first (suc n) p = let less : suc n - 1 ≡ n = omega arith in rw (less, add-one)
 
     -- the entry at r was
-    pub cut-some : (first r : ℕ) → r < entryRoom → EnteredAt bs first (i + 1) r → cutLine i first ns bs ≡ placesOf (entryRoom - r) r ns ++ placesOf (r - (first + 1)) (first + 1) ns
+    pub cut-some : (first r : ℕ) → r < lineRoom → EnteredAt bs first (i + 1) r → cutLine i first ns bs ≡ placesOf (lineRoom - r) r ns ++ placesOf (r - (first + 1)) (first + 1) ns
     unfolding entriesOf
     cut-some first r h f =
         let a = r - first in
-        let n = entryRoom - r in
-        let all : entryRoom - first ≡ a + n = omega (arith, f .from) in
+        let n = lineRoom - r in
+        let all : lineRoom - first ≡ a + n = omega (arith, f .from) in
         let at : a + first ≡ r = omega (arith, f .from) in
         let some : n ≡ suc (n - 1) = omega arith in
         let fewer : a - 1 ≡ r - (first + 1) = omega arith in
@@ -96,15 +97,15 @@ module _ (ns bs : List ℕ) where
         ∙ rw (entries-nodes n r, entries-nodes (r - (first + 1)) (first + 1))
 
 module _ (i first : ℕ) (ns bs line₀ : List ℕ) (p : ℕ) (f : EnteredAt bs first (i + 1) p) where
-  pub cut-whole : (line : List ℕ) (r : ℕ) → entryRoom ≤ p → Copy ns first entryRoom line₀ 0 line r → Cut i first ns bs r line
+  pub cut-whole : (line : List ℕ) (r : ℕ) → lineRoom ≤ p → Copy ns first lineRoom line₀ 0 line r → Cut i first ns bs r line
   cut-whole line r h c = record {
     is = c .is ∙ sym (cut-none ns bs i first p h f);
     few = omega (arith, c .count);
-    nodes-in = λ bound b j l. copy-below ns first entryRoom bound line r c b j l;
+    nodes-in = λ bound b j l. copy-below ns first lineRoom bound line r c b j l;
     long = c .long;
   }
 
-  pub cut-parts : (line line' : List ℕ) (n r : ℕ) → p < entryRoom → Copy ns p entryRoom line₀ 0 line n → Copy ns (first + 1) p line n line' r → Cut i first ns bs r line'
+  pub cut-parts : (line line' : List ℕ) (n r : ℕ) → p < lineRoom → Copy ns p lineRoom line₀ 0 line n → Copy ns (first + 1) p line n line' r → Cut i first ns bs r line'
   cut-parts line line' n r h c d = record {
     is = d .is ∙ ap (λ (l : List ℕ). l ++ placesOf (p - (first + 1)) (first + 1) ns) (c .is) ∙ sym (cut-some ns bs i first p h f);
     few = omega (arith, c .count, d .count, f .from);
@@ -112,26 +113,26 @@ module _ (i first : ℕ) (ns bs line₀ : List ℕ) (p : ℕ) (f : EnteredAt bs 
     long = d .long;
   }
     where
-      some : (bound : ℕ) → ((j : ℕ) → first ≤ j → j < entryRoom → getD ns j 0 < bound) → 0 < bound
+      some : (bound : ℕ) → ((j : ℕ) → first ≤ j → j < lineRoom → getD ns j 0 < bound) → 0 < bound
       some bound b = omega (arith, b p (f .from) h)
 
-      parts : (bound : ℕ) → ((j : ℕ) → first ≤ j → j < entryRoom → getD ns j 0 < bound) → (j : ℕ) → j < r → getD line' j 0 < bound
+      parts : (bound : ℕ) → ((j : ℕ) → first ≤ j → j < lineRoom → getD ns j 0 < bound) → (j : ℕ) → j < r → getD line' j 0 < bound
       parts bound b j l =
           taken-below bound r line' _ (d .is ∙ ap (λ (x : List ℕ). x ++ placesOf (p - (first + 1)) (first + 1) ns) (c .is)) (some bound b)
-          (below-append bound (placesOf (entryRoom - p) p ns) (placesOf (p - (first + 1)) (first + 1) ns) (places-below ns bound (entryRoom - p) p (some bound b) (λ q k m. b q (omega (arith, k, f .from)) (omega (arith, m, h))))
+          (below-append bound (placesOf (lineRoom - p) p ns) (placesOf (p - (first + 1)) (first + 1) ns) (places-below ns bound (lineRoom - p) p (some bound b) (λ q k m. b q (omega (arith, k, f .from)) (omega (arith, m, h))))
           (places-below ns bound (p - (first + 1)) (first + 1) (some bound b) (λ q k m. b q (omega (arith, k)) (omega (arith, m, h, k))))) j l
 
 -- no place from `first` to before p was entered by b
 pub record Passed (bys : List ℕ) (first b p : ℕ) : Type 0 where
   pub from : first ≤ p
-  pub within : p ≤ entryRoom
+  pub within : p ≤ lineRoom
   pub before : (j : ℕ) → first ≤ j → j < p → getD bys j 0 ≡ b → ⊥
 
 module _ (bys : List ℕ) (first b : ℕ) where
-  pub passed-none : first ≤ entryRoom → Passed bys first b first
+  pub passed-none : first ≤ lineRoom → Passed bys first b first
   passed-none h = record { from = omega arith; within = h; before = λ j l k e. omega (arith, l, k) }
 
-  pub passed-more : (p : ℕ) → p < entryRoom → Passed bys first b p → (getD bys p 0 ≡ b → ⊥) → Passed bys first b (p + 1)
+  pub passed-more : (p : ℕ) → p < lineRoom → Passed bys first b p → (getD bys p 0 ≡ b → ⊥) → Passed bys first b (p + 1)
   passed-more p l f n = record {
     from = omega (arith, f .from);
     within = omega arith;
@@ -141,5 +142,5 @@ module _ (bys : List ℕ) (first b : ℕ) where
   pub passed-found : (p : ℕ) → Passed bys first b p → getD bys p 0 ≡ b → EnteredAt bys first b p
   passed-found p f e = record { from = f .from; within = f .within; before = f .before; is = λ h. e }
 
-  pub passed-all : (p : ℕ) → entryRoom ≤ p → Passed bys first b p → EnteredAt bys first b p
+  pub passed-all : (p : ℕ) → lineRoom ≤ p → Passed bys first b p → EnteredAt bys first b p
   passed-all p l f = record { from = f .from; within = f .within; before = f .before; is = λ h. absurd (omega (arith, h)) }

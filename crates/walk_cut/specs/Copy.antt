@@ -3,7 +3,7 @@ use mathlib.Core.Path.{_≡_}
 use mathlib.Core.List.{List, [], _∷_, _++_}
 use Prim.Native.Nat.{ℕ, zero, suc, _+_, _-_}
 use lib.ListN.{length, getD, take}
-use Rattle.walk_circuit.specs.Entries.{entryRoom}
+use Rattle.limits.specs.Limits.{lineRoom}
 
 -- the n nodes from the place p on
 unfoldable pub placesOf : ℕ → ℕ → List ℕ → List ℕ
@@ -17,4 +17,4 @@ Copying ns p q line n = take n line ++ placesOf (q - p) p ns
 pub record Copy (ns : List ℕ) (p₀ q : ℕ) (line₀ : List ℕ) (n₀ : ℕ) (line : List ℕ) (r : ℕ) : Type 0 where
   pub is : take r line ≡ Copying ns p₀ q line₀ n₀
   pub count : r ≡ n₀ + (q - p₀)
-  pub long : length line ≡ entryRoom
+  pub long : length line ≡ lineRoom

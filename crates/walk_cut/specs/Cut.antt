@@ -3,16 +3,17 @@ use mathlib.Core.Path.{_≡_}
 use mathlib.Core.List.{List, [], map}
 use Prim.Native.Nat.{ℕ, _-_, _≤_, _<_}
 use lib.ListN.{length, getD, take}
+use Rattle.limits.specs.Limits.{lineRoom}
 use Rattle.walk_spec.specs.Walk.{Entry}
 use Rattle.walk_spec.specs.Line.{cutAt}
-use Rattle.walk_circuit.specs.Entries.{entryRoom, entriesFrom}
+use Rattle.walk_circuit.specs.Entries.{entriesFrom}
 
 -- r is the first place from `first` on that was entered by b, or the end
 pub record EnteredAt (bys : List ℕ) (first b r : ℕ) : Type 0 where
   pub from : first ≤ r
-  pub within : r ≤ entryRoom
+  pub within : r ≤ lineRoom
   pub before : (j : ℕ) → first ≤ j → j < r → getD bys j 0 ≡ b → ⊥
-  pub is : r < entryRoom → getD bys r 0 ≡ b
+  pub is : r < lineRoom → getD bys r 0 ≡ b
 
 abbrev pub nodesOf : List Entry → List ℕ
 nodesOf ts = map (λ (t : Entry). t .node) ts
@@ -24,6 +25,6 @@ cutLine i first ns bs = nodesOf (cutAt i [] (entriesFrom first ns bs))
 -- The line has r nodes, the circuit's without the step that is cut.
 pub record Cut (i first : ℕ) (ns bs : List ℕ) (r : ℕ) (line : List ℕ) : Type 0 where
   pub is : take r line ≡ cutLine i first ns bs
-  pub few : r ≤ entryRoom - first
-  pub nodes-in : (bound : ℕ) → ((j : ℕ) → first ≤ j → j < entryRoom → getD ns j 0 < bound) → (j : ℕ) → j < r → getD line j 0 < bound
-  pub long : length line ≡ entryRoom
+  pub few : r ≤ lineRoom - first
+  pub nodes-in : (bound : ℕ) → ((j : ℕ) → first ≤ j → j < lineRoom → getD ns j 0 < bound) → (j : ℕ) → j < r → getD line j 0 < bound
+  pub long : length line ≡ lineRoom

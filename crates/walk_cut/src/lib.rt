@@ -3,24 +3,19 @@
 ghost use mathlib.Core.Path.{_≡_};
 ghost use Prim.Native.Nat.{_+_, _-_, _<_, _≤_};
 ghost use lib.ListN.{length};
+ghost use Rattle.limits.specs.Limits.{edgeRoom, lineRoom};
 ghost use Rattle.walk_cut.specs.Copy.{Copy};
 ghost use Rattle.walk_cut.specs.Cut.{EnteredAt, Cut};
 use walk_circuit::ENTRY_ROOM;
 
-fn wide(x: u16) -> usize
-    ensures { λ r. ⌜ r ≡ x ⌝ }
-{
-    x as usize
-}
-
 // The first place from `first` on that was entered by b; the end where there is none.
 fn find_entry(bys: &[u16; ENTRY_ROOM], first: usize, b: usize) -> usize
-    requires { ⌜ first ≤ 4002 ⌝ }
+    requires { ⌜ first ≤ lineRoom ⌝ }
     ensures { λ r. ⌜ EnteredAt (now (bys .entry)) first b r ⌝ }
 {
     let mut p = first;
     while p < ENTRY_ROOM {
-        let by = wide(bys[p]);
+        let by = widen::wide(bys[p]);
         if by == b {
             return p;
         }
@@ -38,7 +33,7 @@ pub fn copy(
     line: &mut [u16; ENTRY_ROOM],
     n: usize,
 ) -> usize
-    requires { ⌜ (to ≤ 4002) × (n + (to - from) ≤ 4002) × (length (now line) ≡ 4002) ⌝ }
+    requires { ⌜ (to ≤ lineRoom) × (n + (to - from) ≤ lineRoom) × (length (now line) ≡ lineRoom) ⌝ }
     ensures { λ r. ⌜ Copy (now (nodes .entry)) from to (now (line .entry)) n (now (line .exit)) r ⌝ }
 {
     let mut p = from;
@@ -60,7 +55,7 @@ pub fn cut(
     i: usize,
     line: &mut [u16; ENTRY_ROOM],
 ) -> usize
-    requires { ⌜ (first < 4002) × (i < 4001) × (length (now line) ≡ 4002) ⌝ }
+    requires { ⌜ (first < lineRoom) × (i < edgeRoom) × (length (now line) ≡ lineRoom) ⌝ }
     ensures { λ r. ⌜ Cut i first (now (nodes .entry)) (now (bys .entry)) r (now (line .exit)) ⌝ }
 {
     let p = find_entry(bys, first, i + 1);

@@ -6,16 +6,16 @@ use native.Mathlib.Omega.{arith}
 use lib.ListN.{length, set, length-append}
 use lib.Seq.{length-take-le}
 use lib.Ieee.{Float}
+use Rattle.limits.specs.Limits.{mostNodes, lineRoom}
 use Rattle.drawing_spec.specs.Drawing.{Point, Settings}
 use Rattle.graph_spec.specs.Graph.{Edge, edge}
 use Rattle.graph_spec.specs.Degree.{oddNodes}
 use Rattle.repair_spec.specs.Distance.{zeroLength}
 use Rattle.walk_spec.specs.Walk.{Entry, circuit}
 use Rattle.walk_spec.specs.Line.{cutAt, best, withEdges, euler}
-use Rattle.graph_adjacency.specs.Lists.{Adjacency, adjacency, noEdges, lists, push, nodeRoom}
+use Rattle.graph_adjacency.specs.Lists.{Adjacency, adjacency, noEdges, lists, push}
 use Rattle.graph_adjacency.specs.Follow.{Ends}
 use Rattle.graph_adjacency.proofs.Follow.{lists-push}
-use Rattle.walk_circuit.specs.Entries.{entryRoom}
 use Rattle.walk_circuit.specs.Standing.{Holds}
 use Rattle.walk_circuit.specs.Walks.{Some, Walked}
 use Rattle.walk_cut.specs.Copy.{Copy}
@@ -26,12 +26,12 @@ use Rattle.walk_euler.specs.Euler.{Line, closedLine, openLine}
 
 -- ---- one edge more
 
-ends-more : (es : List Edge) (e : Edge) → Ends es → e .a < nodeRoom → e .b < nodeRoom → Ends (es ++ (e ∷ []))
+ends-more : (es : List Edge) (e : Edge) → Ends es → e .a < mostNodes → e .b < mostNodes → Ends (es ++ (e ∷ []))
 unfolding Ends
 ends-more [] e n a b = (a, b, tt)
 ends-more (x ∷ es) e n a b = (n .0, n .1, ends-more es e (n .2) a b)
 
-pub holds-push : (es : List Edge) (ends nexts heads ends' nexts' heads' : List ℕ) (ws ws' : List Float) (m u v : ℕ) (x : Float) → m < 4001 → u < nodeRoom → v < nodeRoom
+pub holds-push : (es : List Edge) (ends nexts heads ends' nexts' heads' : List ℕ) (ws ws' : List Float) (m u v : ℕ) (x : Float) → m < 4001 → u < mostNodes → v < mostNodes
     → adjacency ends' ws' nexts' heads' ≡ push m u v x (adjacency ends ws nexts heads) → Holds es ends nexts heads m → Holds (es ++ (edge u v x ∷ [])) ends' nexts' heads' (m + 1)
 unfolding push
 holds-push es ends nexts heads ends' nexts' heads' ws ws' m u v x lm lu lv e h = record {
@@ -52,15 +52,15 @@ holds-none = record { weights = noEdges .weights; is = refl; count = refl; few =
 -- ---- the two lines
 
 module _ (ends nexts heads : List ℕ) (m s : ℕ) where
-  pub closed-is : (nodes bys line₀ line : List ℕ) (first r : ℕ) → Walked ends nexts heads m s first nodes bys → Copy nodes first entryRoom line₀ 0 line r → Line ends nexts heads m (closedLine s) r line
+  pub closed-is : (nodes bys line₀ line : List ℕ) (first r : ℕ) → Walked ends nexts heads m s first nodes bys → Copy nodes first lineRoom line₀ 0 line r → Line ends nexts heads m (closedLine s) r line
   closed-is nodes bys line₀ line first r w c = record {
-    is = λ es h. c .is ∙ sym (entries-nodes nodes bys (entryRoom - first) first) ∙ ap nodesOf (w .is es h);
+    is = λ es h. c .is ∙ sym (entries-nodes nodes bys (lineRoom - first) first) ∙ ap nodesOf (w .is es h);
     few = omega (arith, c .count);
-    nodes-in = copy-below nodes first entryRoom nodeRoom line r c (w .nodes-in);
+    nodes-in = copy-below nodes first lineRoom mostNodes line r c (w .nodes-in);
     long = c .long;
   }
 
-  module _ (ends' nexts' heads' : List ℕ) (ws ws' : List Float) (u v : ℕ) (lm : m < 4001) (lu : u < nodeRoom) (lv : v < nodeRoom)
+  module _ (ends' nexts' heads' : List ℕ) (ws ws' : List Float) (u v : ℕ) (lm : m < 4001) (lu : u < mostNodes) (lv : v < mostNodes)
       (e : adjacency ends' ws' nexts' heads' ≡ push m u v zeroLength (adjacency ends ws nexts heads)) where
     pub some-push : Some ends nexts heads m → Some ends' nexts' heads' (m + 1)
     some-push h = (h .0 ++ (edge u v zeroLength ∷ []), holds-push (h .0) ends nexts heads ends' nexts' heads' ws ws' m u v zeroLength lm lu lv e (h .1))
@@ -71,7 +71,7 @@ module _ (ends nexts heads : List ℕ) (m s : ℕ) where
           c .is ∙ ap (λ (l : List Entry). nodesOf (cutAt m [] l)) (w .is _ (holds-push es ends nexts heads ends' nexts' heads' ws ws' m u v zeroLength lm lu lv e h))
           ∙ ap (λ (n : ℕ). nodesOf (cutAt n [] (circuit (es ++ (edge u v zeroLength ∷ [])) s))) (sym (h .count));
       few = omega (arith, c .few);
-      nodes-in = c .nodes-in nodeRoom (w .nodes-in);
+      nodes-in = c .nodes-in mostNodes (w .nodes-in);
       long = c .long;
     }
 

@@ -3,20 +3,19 @@ use mathlib.Core.Path.{_≡_}
 use mathlib.Core.List.{List, [], _∷_, _++_, map}
 use Prim.Native.Nat.{ℕ, _+_, _-_, _≤_, _<_}
 use lib.ListN.{length, getD, take}
+use Rattle.limits.specs.Limits.{mostNodes, lineRoom}
 use Rattle.graph_spec.specs.Graph.{Edge, edge}
 use Rattle.repair_spec.specs.Distance.{zeroLength}
 use Rattle.walk_spec.specs.Walk.{Entry, circuit}
 use Rattle.walk_spec.specs.Line.{cutAt}
-use Rattle.graph_adjacency.specs.Lists.{nodeRoom}
-use Rattle.walk_circuit.specs.Entries.{entryRoom}
 use Rattle.walk_circuit.specs.Standing.{Holds}
 
 -- r nodes of a line, which is that of whatever edges the flat lists hold
 pub record Line (ends nexts heads : List ℕ) (m : ℕ) (of : List Edge → List ℕ) (r : ℕ) (line : List ℕ) : Type 0 where
   pub is : (es : List Edge) → Holds es ends nexts heads m → take r line ≡ of es
-  pub few : r ≤ entryRoom
-  pub nodes-in : (j : ℕ) → j < r → getD line j 0 < nodeRoom
-  pub long : length line ≡ entryRoom
+  pub few : r ≤ lineRoom
+  pub nodes-in : (j : ℕ) → j < r → getD line j 0 < mostNodes
+  pub long : length line ≡ lineRoom
 
 -- no node is odd
 abbrev pub closedLine : ℕ → List Edge → List ℕ

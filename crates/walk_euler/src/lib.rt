@@ -2,6 +2,7 @@
 ghost use mathlib.Core.Path.{_≡_};
 ghost use Prim.Native.Nat.{_<_, _≤_};
 ghost use lib.ListN.{length};
+ghost use Rattle.limits.specs.Limits.{mostNodes, edgeRoom, lineRoom};
 ghost use Rattle.walk_circuit.specs.Walks.{Some};
 ghost use Rattle.walk_euler.specs.Euler.{Line, closedLine, openLine};
 use limits::EDGE_ROOM;
@@ -17,7 +18,7 @@ pub fn closed_line(
     s: usize,
     line: &mut [u16; ENTRY_ROOM],
 ) -> usize
-    requires { ⌜ (s < 1534) × (length (now line) ≡ 4002) ⌝ }
+    requires { ⌜ (s < mostNodes) × (length (now line) ≡ lineRoom) ⌝ }
     requires edges { ⌜ Some (now ends) (now next) (now heads) m ⌝ }
     ensures { λ r. ⌜ Line (now (ends .entry)) (now (next .entry)) (now (heads .entry)) m (closedLine s) r (now (line .exit)) ⌝ }
 {
@@ -39,7 +40,7 @@ pub fn open_line(
     s: usize,
     line: &mut [u16; ENTRY_ROOM],
 ) -> usize
-    requires { ⌜ (m < 4001) × (u < 1534) × (v < 1534) × (s < 1534) × (length (now line) ≡ 4002) ⌝ }
+    requires { ⌜ (m < edgeRoom) × (u < mostNodes) × (v < mostNodes) × (s < mostNodes) × (length (now line) ≡ lineRoom) ⌝ }
     requires edges { ⌜ Some (now ends) (now next) (now heads) m ⌝ }
     ensures { λ r. ⌜ Line (now (ends .entry)) (now (next .entry)) (now (heads .entry)) m (openLine u v s) r (now (line .exit)) ⌝ }
 {

@@ -5,12 +5,13 @@ use mathlib.Core.Bool.{Bool, true, false}
 use Prim.Native.Nat.{ℕ, _+_, _-_}
 use native.Mathlib.Omega.{arith}
 use lib.ListN.{take}
+use Rattle.limits.specs.Limits.{lineRoom}
 use Rattle.center.specs.Center.{fromCenter, better}
 use Rattle.drawing_spec.specs.Drawing as drawn
 use Rattle.graph_spec.specs.Graph.{pointAt}
 use Rattle.walk_spec.specs.Line as line
 use Rattle.graph_node_points.specs.Points.{Drawn}
-use Rattle.graph_node_points.specs.Line.{lineRoom, Nodes, pointsOf}
+use Rattle.graph_node_points.specs.Line.{Nodes, pointsOf}
 use Rattle.walk_orient.specs.declared.Point.{Point}
 use Rattle.walk_orient.specs.declared.EndPoints.{EndPoints}
 use Rattle.walk_orient.specs.declared.EndPoints.the-variants as variant

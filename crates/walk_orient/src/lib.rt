@@ -2,6 +2,7 @@
 ghost use mathlib.Core.Path.{_≡_};
 ghost use Prim.Native.Nat.{_≤_, _<_};
 ghost use lib.ListN.{length};
+ghost use Rattle.limits.specs.Limits.{mostNodes, lineRoom};
 ghost use Rattle.graph_node_points.specs.Points.{Places};
 ghost use Rattle.graph_node_points.specs.Line.{Nodes};
 ghost use Rattle.walk_orient.specs.Reverse.{Reversed};
@@ -22,15 +23,9 @@ pub enum EndPoints {
     Empty,
 }
 
-fn wide(x: u16) -> usize
-    ensures { λ r. ⌜ r ≡ x ⌝ }
-{
-    x as usize
-}
-
 // The point of a node.
 fn point_of(xs: &[u32; MOST_NODES], ys: &[u32; MOST_NODES], v: usize) -> Point
-    requires { ⌜ v < 1534 ⌝ }
+    requires { ⌜ v < mostNodes ⌝ }
     ensures { λ r. ⌜ r ≡ pointIn (now (xs .entry)) (now (ys .entry)) v ⌝ }
 {
     Point { x: xs[v], y: ys[v] }
@@ -46,20 +41,20 @@ pub fn end_points(
     count: usize,
 ) -> EndPoints
     requires places { ⌜ Places width height (now xs) (now ys) ⌝ }
-    requires nodes { ⌜ Nodes 4002 (now line) count ⌝ }
+    requires nodes { ⌜ Nodes lineRoom (now line) count ⌝ }
     ensures { λ r. ⌜ Ended width height (now (xs .entry)) (now (ys .entry)) (now (line .entry)) count r ⌝ }
 {
     if count == 0 {
         return EndPoints::Empty;
     }
-    let first = point_of(xs, ys, wide(line[0]));
-    let last = point_of(xs, ys, wide(line[count - 1]));
+    let first = point_of(xs, ys, widen::wide(line[0]));
+    let last = point_of(xs, ys, widen::wide(line[count - 1]));
     EndPoints::Ends(first, last)
 }
 
 // The first `count` nodes the other way round.
 fn reverse(line: &mut [u16; ENTRY_ROOM], count: usize)
-    requires { ⌜ (count ≤ 4002) × (count ≤ length (now line)) ⌝ }
+    requires { ⌜ (count ≤ lineRoom) × (count ≤ length (now line)) ⌝ }
     ensures { λ _. ⌜ Reversed (now (line .entry)) count (now (line .exit)) ⌝ }
 {
     let mut i = 0;
@@ -85,7 +80,7 @@ pub fn orient_path(
     count: usize,
 )
     requires places { ⌜ Places width height (now xs) (now ys) ⌝ }
-    requires nodes { ⌜ Nodes 4002 (now line) count ⌝ }
+    requires nodes { ⌜ Nodes lineRoom (now line) count ⌝ }
     ensures { λ _. ⌜ Turned width height inner (now (xs .entry)) (now (ys .entry)) (now (line .entry)) count (now (line .exit)) ⌝ }
 {
     let EndPoints::Ends(first, last) = end_points(xs, ys, width, height, line, count) else {

@@ -7,12 +7,13 @@ use native.Mathlib.Numerals.{add-one}
 use native.Mathlib.Omega.{arith}
 use lib.ListN.{length, getD, take, drop-of-length-le}
 use lib.Seq.{slice, slice-cons, length-take-le}
+use Rattle.limits.specs.Limits.{mostNodes}
 use Rattle.center.specs.Center.{better, Within}
 use Rattle.drawing_spec.specs.Drawing.{Point, Settings, inside}
 use Rattle.graph_spec.specs.Graph.{pointAt}
 use Rattle.walk_spec.specs.Line.{distance, bestOf, best}
 use Rattle.graph_node_points.specs.Points.{Places, Drawn}
-use Rattle.graph_node_points.specs.Line.{nodeRoom, Nodes}
+use Rattle.graph_node_points.specs.Line.{Nodes}
 use Rattle.walk_start.specs.Best.{Best, Better, betterOf, distanceAt}
 
 pub places-within : (width height : ℕ) (xs ys : List ℕ) (v : ℕ) → Places width height xs ys → Within width height (getD xs v 0) (getD ys v 0)
@@ -27,7 +28,7 @@ module _ (s : Settings) (ns : List Point) (width height : ℕ) (inner : Bool) (x
       → better inner a b ≡ better (inside s) (distance s (pointAt ns u)) (distance s (pointAt ns v))
   better-is a b u v e f = rw (d .inner-is, e, f, distance-is u, distance-is v)
 
-module _ (width height : ℕ) (inner : Bool) (xs ys : List ℕ) (v u a b : ℕ) (hv : v < nodeRoom) (hu : u < nodeRoom) (e : a ≡ distanceAt width height xs ys u) (f : b ≡ distanceAt width height xs ys v) where
+module _ (width height : ℕ) (inner : Bool) (xs ys : List ℕ) (v u a b : ℕ) (hv : v < mostNodes) (hu : u < mostNodes) (e : a ≡ distanceAt width height xs ys u) (f : b ≡ distanceAt width height xs ys v) where
   pub better-yes : better inner a b ≡ true → Better width height inner xs ys v u u
   unfolding betterOf
   better-yes t = record { is = λ s ns d. rw (betterOf, sym (better-is s ns width height inner xs ys d a b u v e f) ∙ t); node-in = hu }
@@ -62,9 +63,9 @@ none-left nodes count i l h =
 -- v is the best of those before the place i: with those from there on it gives the best of all
 pub record Chosen (width height : ℕ) (inner : Bool) (xs ys nodes : List ℕ) (count i v : ℕ) : Type 0 where
   pub is : (s : Settings) (ns : List Point) → Drawn s ns width height inner xs ys → bestOf s ns v (slice i count nodes) ≡ best s ns (take count nodes)
-  pub node-in : v < nodeRoom
+  pub node-in : v < mostNodes
 
-module _ (width height : ℕ) (inner : Bool) (xs ys nodes : List ℕ) (count : ℕ) (c : Nodes nodeRoom nodes count) where
+module _ (width height : ℕ) (inner : Bool) (xs ys nodes : List ℕ) (count : ℕ) (c : Nodes mostNodes nodes count) where
   pub chosen-none : count ≡ 0 → Best width height inner xs ys nodes count 0
   unfolding best
   chosen-none h = record { is = λ s ns d. rw h; node-in = omega arith }

@@ -11,6 +11,7 @@ use lib.ListN.{length, set}
 use lib.Seq.{sets}
 use lib.Dec.{eqb}
 use borrow.Author.Tests.{lt-ltb, le-ltb, eqb-true}
+use Rattle.limits.specs.Limits.{mostNodes}
 use Rattle.drawing_spec.specs.Members.{In}
 use Rattle.graph_spec.specs.Graph.{Edge, Arc, edgesAt}
 use Rattle.graph_spec.specs.Degree.{one, hit, degree}
@@ -22,7 +23,6 @@ use Rattle.graph_adjacency.specs.Follow.{Ends, Follows}
 use Rattle.graph_adjacency.proofs.Follow.{lists-follow, follows-none, follows-arc}
 use Rattle.walk_spec.specs.Line.{withEdges}
 use Rattle.walk_circuit.specs.Standing.{Holds}
-use Rattle.graph_node_points.specs.Line.{nodeRoom}
 
 -- ---- a node has an edge where its list has a first arc
 
@@ -54,7 +54,7 @@ degree-edge (e ∷ es) v h = go (eqb (e .a) v) (eqb (e .b) v) refl refl h (λ k.
     go false true p q k rec = record { number = 0; isEdge = omega arith; to = e .a; joins = inr (refl, eqb-true (e .b) v q) }
     go false false p q k rec = later (rec (omega (arith, k)))
 
-module _ (es : List Edge) (v : ℕ) (few : length es ≤ 4001) (inside : Ends es) (hv : v < nodeRoom) where
+module _ (es : List Edge) (v : ℕ) (few : length es ≤ 4001) (inside : Ends es) (hv : v < mostNodes) where
   has-arc : 0 < degree es v → 0 < firstArc (lists es .heads) v
   has-arc h =
       let k = degree-edge es v h in
@@ -75,7 +75,7 @@ module _ (es : List Edge) (v : ℕ) (few : length es ≤ 4001) (inside : Ends es
           absurd (omega (arith, h, degree-some es (edgeAt es (r .number)) v (r .to) (edgeAt-in es (r .number) (a .isEdge)) (a .joins)))
 
 -- for whatever edges the flat lists hold
-module _ (es : List Edge) (ends nexts heads : List ℕ) (m : ℕ) (h : Holds es ends nexts heads m) (v : ℕ) (hv : v < nodeRoom) where
+module _ (es : List Edge) (ends nexts heads : List ℕ) (m : ℕ) (h : Holds es ends nexts heads m) (v : ℕ) (hv : v < mostNodes) where
   heads-are : heads ≡ lists es .heads
   heads-are = ap (λ (g : Adjacency). g .heads) (h .is)
 

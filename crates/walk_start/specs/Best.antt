@@ -4,12 +4,12 @@ use mathlib.Core.List.{List}
 use mathlib.Core.Bool.{Bool, true, false}
 use Prim.Native.Nat.{ℕ, _-_, _<_}
 use lib.ListN.{getD, take}
+use Rattle.limits.specs.Limits.{mostNodes}
 use Rattle.center.specs.Center.{fromCenter, better}
 use Rattle.drawing_spec.specs.Drawing.{Point, Settings, inside}
 use Rattle.graph_spec.specs.Graph.{pointAt}
 use Rattle.walk_spec.specs.Line.{distance, best}
 use Rattle.graph_node_points.specs.Points.{Drawn}
-use Rattle.graph_node_points.specs.Line.{nodeRoom}
 
 -- as the code reads it: the squared distance of the node v from the centre
 abbrev pub distanceAt : ℕ → ℕ → List ℕ → List ℕ → ℕ → ℕ
@@ -23,9 +23,9 @@ betterOf s ns v u = elim (better (inside s) (distance s (pointAt ns u)) (distanc
 -- what the code answers of two nodes
 pub record Better (width height : ℕ) (inner : Bool) (xs ys : List ℕ) (v u r : ℕ) : Type 0 where
   pub is : (s : Settings) (ns : List Point) → Drawn s ns width height inner xs ys → r ≡ betterOf s ns v u
-  pub node-in : r < nodeRoom
+  pub node-in : r < mostNodes
 
 -- the answer
 pub record Best (width height : ℕ) (inner : Bool) (xs ys nodes : List ℕ) (count r : ℕ) : Type 0 where
   pub is : (s : Settings) (ns : List Point) → Drawn s ns width height inner xs ys → r ≡ best s ns (take count nodes)
-  pub node-in : r < nodeRoom
+  pub node-in : r < mostNodes

@@ -4,6 +4,7 @@ ghost use mathlib.Core.List.{List};
 ghost use Prim.Native.Nat.{ℕ, _≤_, _<_};
 ghost use lib.ListN.{length};
 ghost use lib.Seq.{sets};
+ghost use Rattle.limits.specs.Limits.{mostNodes};
 ghost use Rattle.graph_spec.specs.Graph.{Edge};
 ghost use Rattle.walk_spec.specs.Line.{withEdges};
 ghost use Rattle.walk_circuit.specs.Standing.{Holds};
@@ -11,12 +12,6 @@ ghost use Rattle.graph_node_points.specs.Points.{Places};
 ghost use Rattle.graph_node_points.specs.Line.{Nodes};
 ghost use Rattle.walk_start.specs.Best.{distanceAt, Better, Best};
 use limits::MOST_NODES;
-
-fn wide(x: u16) -> usize
-    ensures { λ r. ⌜ r ≡ x ⌝ }
-{
-    x as usize
-}
 
 // The squared distance of a node from the centre of the canvas, in half steps.
 fn distance(
@@ -26,7 +21,7 @@ fn distance(
     height: u32,
     v: usize,
 ) -> u64
-    requires { ⌜ v < 1534 ⌝ }
+    requires { ⌜ v < mostNodes ⌝ }
     requires places { ⌜ Places width height (now xs) (now ys) ⌝ }
     ensures { λ r. ⌜ r ≡ distanceAt width height (now (xs .entry)) (now (ys .entry)) v ⌝ }
 {
@@ -43,7 +38,7 @@ fn better_of(
     v: usize,
     u: usize,
 ) -> usize
-    requires { ⌜ (v < 1534) × (u < 1534) ⌝ }
+    requires { ⌜ (v < mostNodes) × (u < mostNodes) ⌝ }
     requires places { ⌜ Places width height (now xs) (now ys) ⌝ }
     ensures { λ r. ⌜ Better width height inner (now (xs .entry)) (now (ys .entry)) v u r ⌝ }
 {
@@ -67,16 +62,16 @@ pub fn best(
     count: usize,
 ) -> usize
     requires places { ⌜ Places width height (now xs) (now ys) ⌝ }
-    requires nodes { ⌜ Nodes 1534 (now nodes) count ⌝ }
+    requires nodes { ⌜ Nodes mostNodes (now nodes) count ⌝ }
     ensures { λ r. ⌜ Best width height inner (now (xs .entry)) (now (ys .entry)) (now (nodes .entry)) count r ⌝ }
 {
     if count == 0 {
         return 0;
     }
-    let mut v = wide(nodes[0]);
+    let mut v = widen::wide(nodes[0]);
     let mut i = 1;
     while i < count {
-        let u = wide(nodes[i]);
+        let u = widen::wide(nodes[i]);
         v = better_of(xs, ys, width, height, inner, v, u);
         i += 1;
     }
@@ -89,7 +84,7 @@ pub fn nodes_with_edges(
     nodes: &mut [u16; MOST_NODES],
     n: usize,
 ) -> usize
-    requires { ⌜ n ≤ 1534 ⌝ }
+    requires { ⌜ n ≤ mostNodes ⌝ }
     ensures { λ r. ⌜ ((es : List Edge) (ends nexts : List ℕ) (m : ℕ) → Holds es ends nexts (now (heads .entry)) m → (now (nodes .exit) ≡ sets (now (nodes .entry)) 0 (withEdges es n 0)) × (r ≡ length (withEdges es n 0))) ⌝ }
 {
     let mut count: usize = 0;

@@ -17,7 +17,7 @@ use Rattle.graph_line.proofs.trace_line.Reads as reads
 use Rattle.graph_line.proofs.trace_line.Lts as lts
 use Rattle.graph_strokes.proofs.begin.Reads as begin-reads
 use Rattle.graph_line.proofs.trace_segment.Reads as trace-segment-reads
-use Rattle.graph_line.proofs.wide.Reads as wide-reads
+use Rattle.widen.proofs.wide.Reads as wide-reads
 
 abbrev Inv-loop : tie.InvT-loop
 Inv-loop xs₀ ys₀ older₀ buckets₀ ends₀ weights₀ next₀ heads₀ keys₀ sx₀ sy₀ dists pxs pys filed newest lx ly first stop last qx qy t₀ g₀ xs ys older buckets ends weights next heads keys sx sy t g =

@@ -16,7 +16,7 @@ use Rattle.graph_lines.proofs.trace_lines.Statement.{statement}
 use Rattle.graph_lines.proofs.trace_lines.Tie as tie
 use Rattle.graph_lines.proofs.trace_lines.Reads as reads
 use Rattle.graph_lines.proofs.trace_lines.Lts as lts
-use Rattle.graph_lines.proofs.wide.Reads as wide-reads
+use Rattle.widen.proofs.wide.Reads as wide-reads
 use Rattle.graph_line.proofs.trace_line.Reads as trace-line-reads
 
 abbrev Inv-loop : tie.InvT-loop

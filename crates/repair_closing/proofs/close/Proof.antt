@@ -22,7 +22,7 @@ use Rattle.repair_closing.proofs.close.Statement.{statement}
 use Rattle.repair_closing.proofs.close.Tie as tie
 use Rattle.repair_closing.proofs.close.Reads as reads
 use Rattle.repair_closing.proofs.close.Lts as lts
-use Rattle.repair_closing.proofs.wide.Reads as wide-reads
+use Rattle.widen.proofs.wide.Reads as wide-reads
 use Rattle.graph_odd.proofs.odd_nodes.Reads as odd-nodes-reads
 use Rattle.repair_retrace.proofs.apply_pair.Reads as apply-pair-reads
 

@@ -18,7 +18,7 @@ use Rattle.graph_adjacency.proofs.first_arc.Reads as first-arc-reads
 use Rattle.graph_adjacency.proofs.next_arc.Reads as next-arc-reads
 use Rattle.graph_adjacency.proofs.push_edge.Reads as push-edge-reads
 use Rattle.repair_copies.proofs.weight_of.Reads as weight-of-reads
-use Rattle.repair_copies.proofs.wide.Reads as wide-reads
+use Rattle.widen.proofs.wide.Reads as wide-reads
 
 abbrev Inv-loop : tie.InvT-loop
 Inv-loop ends₀ weights₀ next₀ heads₀ path first edges sum total₀ e₀ i u v k₀ ends weights next heads total e k =

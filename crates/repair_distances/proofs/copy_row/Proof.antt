@@ -9,7 +9,7 @@ use Rattle.repair_distances.proofs.copy_row.Statement.{statement}
 use Rattle.repair_distances.proofs.copy_row.Tie as tie
 use Rattle.repair_distances.proofs.copy_row.Reads as reads
 use Rattle.repair_distances.proofs.copy_row.Lts as lts
-use Rattle.repair_distances.proofs.wide.Reads as wide-reads
+use Rattle.widen.proofs.wide.Reads as wide-reads
 
 abbrev Inv-loop : tie.InvT-loop
 Inv-loop at odd count table₀ start j₀ table j = (j ≤ count) × (length table ≡ length table₀) × Copied at odd j start table₀ table

@@ -6,7 +6,7 @@ use Rattle.repair_distances.proofs.fill_row.Tie as tie
 use Rattle.repair_distances.proofs.fill_row.Reads as reads
 use Rattle.repair_distances.proofs.fill_row.Lts as lts
 use Rattle.repair_distances.proofs.copy_row.Reads as copy-row-reads
-use Rattle.repair_distances.proofs.wide.Reads as wide-reads
+use Rattle.widen.proofs.wide.Reads as wide-reads
 use Rattle.repair_table.proofs.row_of.Reads as row-of-reads
 use Rattle.repair_search.proofs.least_distances.Reads as least-distances-reads
 

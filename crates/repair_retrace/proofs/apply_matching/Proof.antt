@@ -14,7 +14,7 @@ use Rattle.repair_retrace.proofs.apply_matching.Tie as tie
 use Rattle.repair_retrace.proofs.apply_matching.Reads as reads
 use Rattle.repair_retrace.proofs.apply_matching.Lts as lts
 use Rattle.repair_retrace.proofs.apply_pair.Reads as apply-pair-reads
-use Rattle.repair_retrace.proofs.wide.Reads as wide-reads
+use Rattle.widen.proofs.wide.Reads as wide-reads
 
 abbrev Inv-loop : tie.InvT-loop
 Inv-loop ends₀ weights₀ next₀ heads₀ firsts seconds pairs n edges sum most number total₀ count₀ i₀ ends weights next heads total count i =

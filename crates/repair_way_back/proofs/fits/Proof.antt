@@ -8,7 +8,7 @@ use Rattle.repair_way_back.proofs.fits.Reads as reads
 use Rattle.repair_way_back.proofs.fits.Lts as lts
 use Rattle.graph_adjacency.proofs.edge_number.Reads as edge-number-reads
 use Rattle.repair_way_back.proofs.on_way_back.Reads as on-way-back-reads
-use Rattle.repair_way_back.proofs.wide.Reads as wide-reads
+use Rattle.widen.proofs.wide.Reads as wide-reads
 
 -- src/lib.rt:44:23
 sub-wide : tie.Need-sub-wide

@@ -21,7 +21,7 @@ use Rattle.repair_way_back.proofs.way_back.Lts as lts
 use Rattle.graph_adjacency.proofs.first_arc.Reads as first-arc-reads
 use Rattle.graph_adjacency.proofs.next_arc.Reads as next-arc-reads
 use Rattle.repair_way_back.proofs.fits.Reads as fits-reads
-use Rattle.repair_way_back.proofs.wide.Reads as wide-reads
+use Rattle.widen.proofs.wide.Reads as wide-reads
 
 abbrev Inv-loop : tie.InvT-loop
 Inv-loop ends weights next heads dist path n s t seen last at v₀ k₀ v k =
