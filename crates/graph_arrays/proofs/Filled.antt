@@ -15,7 +15,7 @@ use Rattle.graph_adjacency.specs.Lists.{Adjacency, adjacency, noEdges, push, pu
 use Rattle.graph_adjacency.proofs.Follow.{Sized, push-sized, lists-sized}
 use Rattle.graph_edge_arrays.specs.Held.{EndsHeld}
 use Rattle.graph_edge_arrays.proofs.Held.{first-end, second-end}
-use Rattle.repair_spec.specs.Cost.{Weights}
+use Rattle.graph_spec.specs.Weights.{Weights}
 use Rattle.graph_arrays.proofs.Tabulate.{tabulate-is}
 use Rattle.graph_arrays.specs.Read.{edgeIn, edgesIn, EdgesSound}
 

@@ -9,7 +9,7 @@ use Rattle.drawing_spec.specs.Drawing.{Point}
 use Rattle.graph_spec.specs.Graph.{Edge, edge, Graph}
 use Rattle.graph_spec.specs.Ways.{Inside}
 use Rattle.graph_adjacency.specs.Lists.{adjacency, lists}
-use Rattle.repair_spec.specs.Cost.{Weights}
+use Rattle.graph_spec.specs.Weights.{Weights}
 use Rattle.graph_arrays.specs.Tabulate.{tabulate}
 
 abbrev pub pointIn : List ℕ → List ℕ → ℕ → Point

@@ -6,6 +6,7 @@ pub mod Degree
 pub mod Reach
 pub mod Count
 pub mod Ways
+pub mod Weights
 -- Laws of sums, lines and ways:
 -- Laws of a node's edges, and of odd nodes:
 -- Laws of nodes, of strokes and of the whole graph; what can be reached:

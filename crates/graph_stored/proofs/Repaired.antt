@@ -12,7 +12,7 @@ use Rattle.graph_spec.specs.Reach.{allReached}
 use Rattle.graph_adjacency.specs.Lists.{Adjacency, lists}
 use Rattle.repair_spec.specs.Repair.{Repair, repaired, fixParity}
 use Rattle.repair_spec.proofs.Repaired.{fixed}
-use Rattle.repair_early_exit.specs.EarlyExit.{Searchable}
+use Rattle.graph_spec.specs.Weights.{Searchable}
 use Rattle.repair_early_exit.proofs.Never.{Sound, reached-one-piece, repair-sound}
 use Rattle.graph_stored.specs.Stored.{EdgesHeld, Stored}
 

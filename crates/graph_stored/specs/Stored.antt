@@ -9,7 +9,7 @@ use Rattle.drawing_spec.specs.Drawing.{Point}
 use Rattle.drawing_spec.specs.OnGrid.{OnGrid}
 use Rattle.graph_spec.specs.Graph.{Edge, Graph, pointAt}
 use Rattle.graph_adjacency.specs.Lists.{Adjacency, lists}
-use Rattle.repair_early_exit.specs.EarlyExit.{Searchable}
+use Rattle.graph_spec.specs.Weights.{Searchable}
 
 -- the n nodes ns, each at a point of the grid
 pub record NodesHeld (ns : List Point) (xs ys : List ℕ) (n : ℕ) : Type 0 where

@@ -19,7 +19,7 @@ use Rattle.graph_spec.specs.Graph.{Graph, buildGraph}
 use Rattle.graph_spec.proofs.Built.{built-on}
 use Rattle.graph_nodes.specs.Table.{Table}
 use Rattle.graph_adjacency.specs.Lists.{Adjacency}
-use Rattle.repair_early_exit.specs.EarlyExit.{Searchable}
+use Rattle.graph_spec.specs.Weights.{Searchable}
 use Rattle.repair_early_exit.proofs.Drawn.{drawn-searchable}
 use Rattle.graph_bounds.proofs.Bounds.{built-room}
 use Rattle.file.specs.declared.Drawing.{Drawing}

@@ -38,7 +38,7 @@ use Rattle.planner_graph.specs.declared.Answer.the-variants.{Refused, Pl
 use Rattle.planner_graph.specs.GraphPlan.{finish, graphPlan}
 use Rattle.planner_graph.proofs.GraphPlan.{finish-short, finish-planned, plan-apart, plan-on, plan-repaired}
 use Rattle.sums.specs.Key.{Nonneg}
-use Rattle.repair_early_exit.specs.EarlyExit.{Searchable}
+use Rattle.graph_spec.specs.Weights.{Searchable}
 use Rattle.planner_graph.proofs.Sum.{repair-summed}
 use Rattle.planner_graph.specs.Answer.{Answered, lent, Plannable, PlansGraph}
 

@@ -12,7 +12,7 @@ use Rattle.graph_spec.specs.Reach.{allReached}
 use Rattle.repair_spec.specs.Retrace.{shortestPath}
 use Rattle.repair_spec.specs.Repair.{Repairing, stopped, repaired}
 use Rattle.planner_spec.specs.Plan.{drawingIn, graphIn, repairIn, stoppedBy}
-use Rattle.repair_early_exit.specs.EarlyExit.{Searchable}
+use Rattle.graph_spec.specs.Weights.{Searchable}
 use Rattle.repair_early_exit.proofs.Drawn.{drawn-searchable}
 use Rattle.repair_early_exit.proofs.FewNodes.{nodes-few}
 use Rattle.repair_early_exit.proofs.Never.{Sound, reached-one-piece, repair-sound}

@@ -13,7 +13,7 @@ use Rattle.repair_spec.specs.Distance.{zeroLength}
 use Rattle.repair_spec.specs.Retrace.{Laid}
 use Rattle.repair_spec.specs.Pairing.{Pair}
 use Rattle.repair_spec.specs.Repair.{Repair, Repairing, stopped, repaired, withSum, addSum, applyMatching, close, closeIf}
-use Rattle.repair_early_exit.specs.EarlyExit.{Searchable}
+use Rattle.graph_spec.specs.Weights.{Searchable}
 use Rattle.repair_copies.specs.Laying.{laidOf}
 use Rattle.repair_retrace.specs.Apply.{Outcome, refused, done, applyPair, applyPairs}
 use Rattle.repair_retrace.proofs.Apply.{outcome, apply-same, pair-leaves, pairs-on, pairs-refused, pairs-none}

@@ -18,7 +18,7 @@ use Rattle.graph_spec.proofs.EdgesAt.{arc-joins}
 use Rattle.repair_spec.specs.Distance.{infinity, distanceAt, improve, relaxAll}
 use Rattle.repair_spec.specs.Relax.{keyAt, AllNonneg}
 use Rattle.repair_spec.proofs.Relax.{Improved, lt-true, lt-false, still-nonneg, no-higher, Next, next-nonneg, relaxAll-is}
-use Rattle.repair_spec.specs.Cost.{Weights}
+use Rattle.graph_spec.specs.Weights.{Weights}
 use Rattle.repair_early_exit.proofs.Found.{arc-along}
 use Rattle.repair_early_exit.proofs.Search.{improved-unique}
 

@@ -18,11 +18,10 @@ use Rattle.graph_spec.specs.Graph.{Edge}
 use Rattle.repair_spec.specs.Distance.{infinity, zeroLength, distanceAt, dijkstra, distances}
 use Rattle.repair_spec.specs.Relax.{keyAt}
 use Rattle.repair_spec.proofs.Relax.{Next}
-use Rattle.repair_spec.specs.Cost.{Weights}
+use Rattle.graph_spec.specs.Weights.{Weights, Short, longest}
 use Rattle.repair_early_exit.proofs.Difference.{round-most}
 use Rattle.repair_early_exit.proofs.NotBack.{farthest, InReach}
 use Rattle.repair_early_exit.proofs.Rounds.{Ordered, taken, taken-node, nextDistances, taken-nonneg, improved, above, round-ordered, standing-start}
-use Rattle.repair_early_exit.specs.Bounded.{Short, longest}
 
 -- each distance is infinity, or that of i edges at most
 abbrev Within : ℕ → List Float → Type 0

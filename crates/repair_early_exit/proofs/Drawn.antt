@@ -22,9 +22,7 @@ use Rattle.graph_spec.specs.Chain.{squared, strokesOf}
 use Rattle.graph_spec.specs.Graph.{Edge, edgeOf, buildGraph}
 use Rattle.graph_spec.proofs.Strokes.{Between, strokes-between, uses-of-all}
 use Rattle.graph_spec.proofs.Built.{built-inside, built-weights}
-use Rattle.repair_early_exit.specs.NotBack.{gridStep}
-use Rattle.repair_early_exit.specs.Bounded.{longest}
-use Rattle.repair_early_exit.specs.EarlyExit.{Searchable}
+use Rattle.graph_spec.specs.Weights.{gridStep, longest, Searchable}
 
 -- ---- squared distances
 

@@ -14,7 +14,7 @@ use Rattle.repair_early_exit.proofs.WayBack.{Serves, same-way-back}
 use Rattle.repair_early_exit.proofs.Stopped.{Underway, Ahead, underway-nonneg, stopped-serves}
 use Rattle.repair_early_exit.proofs.Rounds.{taken, taken-ahead, Standing, standing-serves, rounds-nonneg, standing-start}
 use Rattle.repair_early_exit.proofs.Bounded.{distances-in-reach}
-use Rattle.repair_early_exit.specs.EarlyExit.{Searchable}
+use Rattle.graph_spec.specs.Weights.{Searchable}
 
 module _ (n : ℕ) (es : List Edge) (G : Searchable n es) (s t : ℕ) where
   distances-nonneg : AllNonneg (distances n es s)

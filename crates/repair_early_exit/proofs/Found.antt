@@ -27,12 +27,10 @@ use Rattle.repair_spec.proofs.Cost.{way-nonneg, least-nonneg}
 use Rattle.repair_spec.proofs.Least.{least-distance}
 use Rattle.repair_spec.specs.Relax.{keyAt}
 use Rattle.repair_early_exit.proofs.Difference.{round-most}
-use Rattle.repair_early_exit.specs.NotBack.{gridStep}
+use Rattle.graph_spec.specs.Weights.{gridStep, longest, Searchable}
 use Rattle.repair_early_exit.proofs.NotBack.{farthest, not-back, exactly-back}
-use Rattle.repair_early_exit.specs.Bounded.{longest}
 use Rattle.repair_early_exit.proofs.Bounded.{distances-in-reach}
 use Rattle.repair_early_exit.proofs.Rounds.{distances-length}
-use Rattle.repair_early_exit.specs.EarlyExit.{Searchable}
 use Rattle.repair_early_exit.proofs.Closer.{closer, closer-less, closer-few}
 
 -- ---- the first neighbour on the way back, where there is one that is not visited

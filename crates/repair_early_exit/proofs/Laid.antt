@@ -20,7 +20,7 @@ use Rattle.repair_spec.proofs.Along.{shortest-along}
 use Rattle.repair_spec.proofs.Copies.{copy, laid, lay-copied, lay-inside, lay-weights}
 use Rattle.repair_spec.specs.Pairing.{Pair}
 use Rattle.repair_spec.specs.Repair.{Repair, Repairing, stopped, applyMatching}
-use Rattle.repair_early_exit.specs.EarlyExit.{Searchable}
+use Rattle.graph_spec.specs.Weights.{Searchable}
 
 -- ---- copies have the lengths of edges that were there
 pub lay-searchable : (n u : ℕ) (vs : List ℕ) (l : Laid) (t : ℕ) → Walks (l .edges) u vs t → Searchable n (l .edges) → Searchable n (lay u vs l .edges)

@@ -28,7 +28,7 @@ use Rattle.repair_spec.specs.Pairing.{Pair, pair}
 use Rattle.repair_spec.specs.Repair.{Repair, Repairing, stopped, repaired, withSum, addSum, applyMatching, rows, distanceIn, pairsOf, close, closeIf, drawn, fixParity}
 use Rattle.repair_spec.proofs.Pairs.{ends, AllButTwo, greedy-pairs}
 use Rattle.repair_spec.proofs.Matched.{optimal-pairs}
-use Rattle.repair_early_exit.specs.EarlyExit.{Searchable}
+use Rattle.graph_spec.specs.Weights.{Searchable}
 use Rattle.repair_early_exit.proofs.Laid.{retraced, retrace-searchable}
 use Rattle.repair_early_exit.proofs.Found.{path-found}
 

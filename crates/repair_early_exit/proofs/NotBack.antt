@@ -16,7 +16,7 @@ use Rattle.sums.proofs.Sum.{rounded, round-nonneg, round-key, round-own, inf-no
 use Rattle.repair_spec.specs.Distance.{infinity}
 use Rattle.repair_spec.specs.Retrace.{magnitude, tolerance, onWayBack}
 use Rattle.repair_early_exit.proofs.Difference.{round-keeps, round-near, sub-is}
-use Rattle.repair_early_exit.specs.NotBack.{gridStep}
+use Rattle.graph_spec.specs.Weights.{gridStep}
 
 -- 2 ^ 41
 abbrev pub farthest : Float

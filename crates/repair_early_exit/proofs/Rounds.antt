@@ -19,7 +19,7 @@ use Rattle.repair_spec.specs.Distance.{infinity, zeroLength, distanceAt, Neares
 use Rattle.repair_spec.specs.Relax.{keyAt, AllNonneg}
 use Rattle.repair_spec.proofs.Relax.{Improved, still-nonneg, Next, next-nonneg, relaxAll-is}
 use Rattle.repair_spec.proofs.Nearest.{Done, Open, Picked, pick-is}
-use Rattle.repair_spec.specs.Cost.{Weights}
+use Rattle.graph_spec.specs.Weights.{Weights}
 use Rattle.repair_early_exit.proofs.WayBack.{Serves}
 use Rattle.repair_early_exit.proofs.Stopped.{Ahead}
 

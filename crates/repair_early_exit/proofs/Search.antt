@@ -21,7 +21,8 @@ use Rattle.repair_spec.specs.Distance.{infinity, zeroLength, distanceAt}
 use Rattle.repair_spec.specs.Relax.{keyAt, AllNonneg}
 use Rattle.repair_spec.proofs.Relax.{Improved, no-higher, Next}
 use Rattle.repair_spec.proofs.Nearest.{Done, Open}
-use Rattle.repair_spec.specs.Cost.{Weights, Way, here, step}
+use Rattle.repair_spec.specs.Cost.{Way, here, step}
+use Rattle.graph_spec.specs.Weights.{Weights}
 use Rattle.repair_early_exit.proofs.Stopped.{Underway, Ahead, underway-nonneg}
 
 -- what holds after every step of a search from s among n nodes

@@ -13,11 +13,10 @@ use lib.Ieee.{Float, fin}
 use Rattle.graph_spec.specs.Graph.{Edge, edge, edgesAt}
 use Rattle.repair_spec.specs.Distance.{infinity, zeroLength, pick, relaxAll, dijkstra, distances}
 use Rattle.repair_spec.specs.Retrace.{Path, found, wayBack, shortestPath}
-use Rattle.repair_spec.specs.Cost.{Weights}
+use Rattle.graph_spec.specs.Weights.{Weights, Searchable}
 use Rattle.repair_spec.specs.Relax.{AllNonneg}
 use Rattle.repair_early_exit.proofs.WayBack.{Serves}
 use Rattle.repair_early_exit.proofs.Rounds.{taken, taken-nonneg, taken-ahead, nextDone, Standing, standing-start, standing-next, standing-serves}
-use Rattle.repair_early_exit.specs.EarlyExit.{Searchable}
 use Rattle.repair_early_exit.proofs.EarlyExit.{serves-exit}
 use Rattle.repair_early_exit.proofs.Arcs.{relaxArcs, arcs-relax}
 

@@ -19,7 +19,8 @@ use Rattle.repair_spec.specs.Relax.{keyAt, AllNonneg}
 use Rattle.repair_spec.proofs.Relax.{Next}
 use Rattle.repair_spec.proofs.Nearest.{Done, Open}
 use Rattle.repair_spec.proofs.Least.{least-distance}
-use Rattle.repair_spec.specs.Cost.{Weights, Way, here, step, Least}
+use Rattle.repair_spec.specs.Cost.{Way, here, step, Least}
+use Rattle.graph_spec.specs.Weights.{Weights}
 use Rattle.repair_spec.proofs.Cost.{way-nonneg, least-unique}
 use Rattle.repair_early_exit.proofs.WayBack.{Serves}
 

@@ -14,11 +14,9 @@ use Rattle.drawing_spec.specs.Members.{In}
 use Rattle.graph_spec.proofs.EdgesAt.{arc-joins}
 use Rattle.repair_spec.specs.Distance.{distanceAt}
 use Rattle.repair_spec.specs.Retrace.{Path, Step, to, none, found, error, onWayBack, member, stepBack, wayBack}
-use Rattle.repair_spec.specs.Cost.{Weights}
+use Rattle.graph_spec.specs.Weights.{Weights, gridStep, Long}
 use Rattle.repair_spec.specs.Relax.{keyAt, AllNonneg}
-use Rattle.repair_early_exit.specs.NotBack.{gridStep}
 use Rattle.repair_early_exit.proofs.NotBack.{InReach, none-back, not-back}
-use Rattle.repair_early_exit.specs.WayBack.{Long}
 
 -- ds' serves for the way back from t as ds does: t's distance is the same, and any other is the same or, in both, no less than that of t
 pub record Serves (t : ℕ) (ds ds' : List Float) : Type 0 where

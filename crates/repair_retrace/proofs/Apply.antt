@@ -24,7 +24,7 @@ use Rattle.repair_spec.proofs.Along.{shortest-along}
 use Rattle.repair_spec.specs.Pairing.{Pair}
 use Rattle.repair_spec.specs.Repair.{Repair, Repairing, stopped, repaired, applyMatching}
 use Rattle.repair_early_exit.proofs.WayBack.{Serves}
-use Rattle.repair_early_exit.specs.EarlyExit.{Searchable}
+use Rattle.graph_spec.specs.Weights.{Searchable}
 use Rattle.repair_early_exit.proofs.EarlyExit.{serves-exit}
 use Rattle.repair_early_exit.proofs.Laid.{retraced, counted, apply-counted, path-count, retrace-searchable}
 use Rattle.repair_search.specs.Search.{GraphOf, Found}

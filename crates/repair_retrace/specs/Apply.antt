@@ -10,7 +10,7 @@ use Rattle.graph_spec.specs.Graph.{Edge}
 use Rattle.graph_adjacency.specs.Lists.{Adjacency}
 use Rattle.repair_spec.specs.Retrace.{Path, found, error, shortestPath, Laid, layPath}
 use Rattle.repair_spec.specs.Pairing.{Pair, pair}
-use Rattle.repair_early_exit.specs.EarlyExit.{Searchable}
+use Rattle.graph_spec.specs.Weights.{Searchable}
 use Rattle.repair_search.specs.Search.{GraphOf}
 
 -- ---- the definition, for any limit of edges

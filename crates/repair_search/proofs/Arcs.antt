@@ -10,7 +10,7 @@ use Rattle.graph_spec.specs.Graph.{Edge, Arc, edgesAt}
 use Rattle.graph_spec.specs.Ways.{Joins}
 use Rattle.drawing_spec.specs.Members.{In}
 use Rattle.graph_spec.proofs.EdgesAt.{edgeAt, number-of, edgesAt-all, edgesAt-arc, arc-joins}
-use Rattle.repair_spec.specs.Cost.{Weights}
+use Rattle.graph_spec.specs.Weights.{Weights}
 use Rattle.repair_spec.specs.Relax.{AllNonneg}
 use Rattle.repair_spec.proofs.Relax.{Improved, Next, kept, still-nonneg, offers-iff, and-then, improve-is}
 use Rattle.repair_search.specs.Arcs.{relaxArcs}

@@ -9,7 +9,7 @@ use Rattle.graph_spec.specs.Graph.{Edge}
 use Rattle.graph_spec.specs.Ways.{Inside}
 use Rattle.graph_adjacency.specs.Lists.{Adjacency, lists}
 use Rattle.repair_spec.specs.Distance.{distanceAt}
-use Rattle.repair_spec.specs.Cost.{Weights}
+use Rattle.graph_spec.specs.Weights.{Weights}
 use Rattle.repair_spec.specs.Relax.{AllNonneg}
 use Rattle.repair_spec.specs.Rounds.{UpTo}
 

@@ -21,7 +21,7 @@ use Rattle.graph_spec.proofs.Sums.{sumOver-append, degree-sum}
 use Rattle.graph_spec.proofs.Connected.{joined-more}
 use Rattle.graph_spec.proofs.EdgesAt.{edgeAt, number-of, edgesAt-all, edgesAt-arc, arc-joins}
 use Rattle.repair_spec.specs.Retrace.{weightTo, Laid, lay}
-use Rattle.repair_spec.specs.Cost.{Weights}
+use Rattle.graph_spec.specs.Weights.{Weights}
 
 -- ---- one copy more
 

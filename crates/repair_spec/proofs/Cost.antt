@@ -9,7 +9,8 @@ use Rattle.sums.specs.Key.{Nonneg, key}
 use Rattle.sums.proofs.KeyLaws.{key-top, key-inj}
 use Rattle.sums.proofs.Sum.{add-nonneg, zero-nonneg, inf-nonneg}
 use Rattle.graph_spec.specs.Graph.{Edge}
-use Rattle.repair_spec.specs.Cost.{Least, Way, Weights, here, step}
+use Rattle.repair_spec.specs.Cost.{Least, Way, here, step}
+use Rattle.graph_spec.specs.Weights.{Weights}
 
 module _ (es : List Edge) (weights : Weights es) (s : ℕ) where
   pub way-nonneg : {v : ℕ} {c : Float} → Way es s v c → Nonneg binary64 c

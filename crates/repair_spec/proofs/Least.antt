@@ -18,7 +18,8 @@ use Rattle.repair_spec.specs.Distance.{infinity, zeroLength, distanceAt,
 use Rattle.repair_spec.proofs.Relax.{relaxAll-is}
 use Rattle.repair_spec.proofs.Nearest.{Picked, pick-is}
 use Rattle.repair_spec.proofs.Rounds.{Chosen, NodeOrNone, Run, begin, round, Invariant, beyond, run-invariant, run-settled, run-least}
-use Rattle.repair_spec.specs.Cost.{Weights, Least}
+use Rattle.repair_spec.specs.Cost.{Least}
+use Rattle.graph_spec.specs.Weights.{Weights}
 
 abbrev noNode : List Float → Nearest
 noNode ds = record { node = length ds; distance = infinity }

@@ -18,7 +18,7 @@ use Rattle.graph_spec.specs.Graph.{Edge}
 use Rattle.graph_spec.specs.Ways.{Joins}
 use Rattle.drawing_spec.specs.Members.{In}
 use Rattle.repair_spec.specs.Distance.{infinity, distanceAt, improve, relax, relaxAll}
-use Rattle.repair_spec.specs.Cost.{Weights}
+use Rattle.graph_spec.specs.Weights.{Weights}
 use Rattle.repair_spec.specs.Relax.{AllNonneg, keyAt}
 
 pub lt-true : (x y : Float) → Nonneg binary64 x → Nonneg binary64 y → lt x y ≡ true → key binary64 x < key binary64 y

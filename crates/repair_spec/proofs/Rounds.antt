@@ -23,7 +23,8 @@ use Rattle.repair_spec.specs.Distance.{infinity, zeroLength, distanceAt}
 use Rattle.repair_spec.specs.Relax.{keyAt, AllNonneg}
 use Rattle.repair_spec.proofs.Relax.{Improved, no-higher, still-nonneg, Next, next-nonneg}
 use Rattle.repair_spec.proofs.Nearest.{Done, Open}
-use Rattle.repair_spec.specs.Cost.{Weights, Way, here, step, Least}
+use Rattle.repair_spec.specs.Cost.{Way, here, step, Least}
+use Rattle.graph_spec.specs.Weights.{Weights}
 use Rattle.repair_spec.proofs.Cost.{way-nonneg}
 use Rattle.repair_spec.specs.Rounds.{UpTo}
 

@@ -4,15 +4,11 @@ use mathlib.Core.Logic.{_⊎_}
 use mathlib.Core.List.{List}
 use Prim.Native.Nat.{ℕ, _≤_}
 use lib.Ieee.{Float, binary64, add}
-use Rattle.sums.specs.Key.{Nonneg, key}
+use Rattle.sums.specs.Key.{key}
 use Rattle.graph_spec.specs.Graph.{Edge}
 use Rattle.graph_spec.specs.Ways.{Joins}
 use Rattle.drawing_spec.specs.Members.{In}
 use Rattle.repair_spec.specs.Distance.{infinity, zeroLength}
-
--- no edge has a negative weight, -0.0 or NaN
-abbrev pub Weights : List Edge → Type 0
-Weights es = (e : Edge) → In e es → Nonneg binary64 (e .weight)
 
 -- a way from s, each edge taken in either direction, and its cost: the weights added from s on, each sum rounded
 pub data Way (es : List Edge) (s : ℕ) : ℕ → Float → Type 0 where
