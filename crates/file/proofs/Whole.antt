@@ -17,7 +17,8 @@ use Rattle.file_records.specs.declared.MstEdge.{MstEdge}
 use Rattle.file.specs.declared.Tally.{Tally}
 use Rattle.file.specs.declared.Lines.{Lines}
 use Rattle.file.specs.declared.Drawing.{Drawing}
-use Rattle.file.specs.Held.{settingsIn, settingsBack, noSettings, noEdge}
+use Rattle.file.specs.Held.{settingsIn, noSettings, noEdge}
+use Rattle.file_records.specs.Meaning.{settingsOf}
 use Rattle.file.specs.Tally.{tallied, noTally, orderFits}
 use Rattle.file.proofs.TallyLaws.{kinds, lengths}
 use Rattle.file.specs.Stores.{padded, flat, xsOf, ysOf, endsFrom}
@@ -43,8 +44,8 @@ module _ (rs : List Record) (t : Tally) (e : t ≡ tallied rs noTally) where
   counts-tell b v h i = sym (h ∙ counts-tally rs t e) ∙ i
 
 pub settings-tell : (file : List ℕ) → isCut file ≡ false → kindsFit (recordsOf file) ≡ true → lengthsFit (recordsOf file) ≡ true
-    → (s : Settings) (b v : Bool) → s ≡ settingsIn (recordRead file 0 .body) → b ≡ settingsFit (settingsBack s) → b ≡ v → settingsFit (drawingOf (recordsOf file) .settings) ≡ v
-settings-tell file w k l s b v e h i = sym (h ∙ ap (λ (s : Settings). settingsFit (settingsBack s)) (e ∙ settings-read file w k l)) ∙ i
+    → (s : Settings) (b v : Bool) → s ≡ settingsIn (recordRead file 0 .body) → b ≡ settingsFit (settingsOf s) → b ≡ v → settingsFit (drawingOf (recordsOf file) .settings) ≡ v
+settings-tell file w k l s b v e h i = sym (h ∙ ap (λ (s : Settings). settingsFit (settingsOf s)) (e ∙ settings-read file w k l)) ∙ i
 
 -- ---- the drawing of a file that checks 1 to 7 pass
 

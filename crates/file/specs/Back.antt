@@ -9,7 +9,8 @@ use Rattle.drawing_spec.specs.Read.{placeAt, point}
 use Rattle.file_records.specs.declared.Point.{Point}
 use Rattle.file_records.specs.declared.MstEdge.{MstEdge}
 use Rattle.file.specs.declared.Drawing.{Drawing}
-use Rattle.file.specs.Held.{settingsBack, pastEnd}
+use Rattle.file.specs.Held.{pastEnd}
+use Rattle.file_records.specs.Meaning.{settingsOf}
 
 -- ---- the way back
 
@@ -40,7 +41,7 @@ linksBack (suc n) i edges = linkBack (getD edges i pastEnd) ∷ linksBack n (suc
 unfoldable pub drawingFrom : Drawing → drawn.Drawing
 unfolding linesBack linksBack
 drawingFrom d = record {
-  settings = settingsBack (d .settings);
+  settings = settingsOf (d .settings);
   lines = linesBack (d .lines) 0 (d .starts) (d .xs) (d .ys);
   links = linksBack (d .«link_count») 0 (d .links);
 }

@@ -10,9 +10,6 @@ use Rattle.file_records.specs.declared.Span.{Span}
 use Rattle.file_records.specs.declared.Body.{Body}
 use Rattle.file_records.specs.declared.Body.the-variants as body
 
-abbrev pub settingsBack : Settings → drawn.Settings
-settingsBack s = record { width = s .width; height = s .height; pairing = s .pairing; flags = s .flags }
-
 abbrev pub noSettings : Settings
 noSettings = record { width = 0; height = 0; pairing = 0; flags = 0 }
 

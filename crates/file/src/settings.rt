@@ -2,7 +2,8 @@
 ghost use mathlib.Core.Path.{_≡_};
 ghost use Rattle.drawing_spec.specs.Read.{settingsFit};
 ghost use Rattle.file_records.specs.Body.{recordRead};
-ghost use Rattle.file.specs.Held.{settingsIn, settingsBack, noSettings};
+ghost use Rattle.file.specs.Held.{settingsIn, noSettings};
+ghost use Rattle.file_records.specs.Meaning.{settingsOf};
 use file_records::Body;
 use file_records::Settings;
 use limits::MOST_FLAGS;
@@ -11,7 +12,7 @@ use limits::MOST_SIDE;
 
 // Check 5.
 pub(crate) fn settings_fit(s: Settings) -> bool
-    ensures { λ r. ⌜ r ≡ settingsFit (settingsBack s) ⌝ }
+    ensures { λ r. ⌜ r ≡ settingsFit (settingsOf s) ⌝ }
 {
     if MOST_SIDE < s.width {
         return false;

@@ -25,7 +25,7 @@ use Rattle.graph_bounds.proofs.Bounds.{built-room}
 use Rattle.file.specs.declared.Drawing.{Drawing}
 use Rattle.file.specs.declared.Reading.{Reading}
 use Rattle.file.specs.declared.Verdict.the-variants.{Accepted, Refused}
-use Rattle.file.specs.Held.{settingsBack}
+use Rattle.file_records.specs.Meaning.{settingsOf}
 use Rattle.file.specs.Reading.{verdictFrom, readingOf}
 use Rattle.file.proofs.ReadingLaws.{taken}
 use Rattle.file.specs.Back.{drawingFrom}
@@ -76,7 +76,7 @@ sides s h =
     (leb-true (s .width) mostSide (both w l p .0), leb-true (s .height) mostSide (both w l p .1))
 
 module _ (d : Drawing) (D : Drawable d) where
-  settings-back : settingsBack (d .settings) ≡ drawingFrom d .settings
+  settings-back : settingsOf (d .settings) ≡ drawingFrom d .settings
   unfolding drawingFrom
   settings-back = refl
 

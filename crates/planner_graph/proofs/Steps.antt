@@ -21,7 +21,7 @@ use Rattle.walk.specs.Walk as walk
 use Rattle.repair_retrace.specs.Apply as retrace
 use Rattle.planner_spec.specs.Plan as plan
 use Rattle.file_records.specs.declared.Settings.{Settings}
-use Rattle.file.specs.Held.{settingsBack}
+use Rattle.file_records.specs.Meaning.{settingsOf}
 use Rattle.repair.specs.Parity.{parityFor, answerOf}
 use Rattle.repair.specs.Stored as parity
 use Rattle.repair.specs.Meaning.{valueOf}
@@ -72,27 +72,27 @@ module _ (t : Settings) (xs ys : List ℕ) (a : Adjacency) (n m floats bytes : �
   reached-is g S = R (g .edges) (for-reach n (S .nodes .room) (g .edges) m a (S .edges)) ∙ ap (λ (k : ℕ). allReached k (g .edges)) (S .nodes .count)
 
   pub not-reached : b ≡ false → PlansGraph t xs ys a n m floats bytes output₀ output₀ (Refused 9)
-  not-reached h g S = record { is = sym (plan-apart g (settingsBack t) (lent floats bytes output₀) (sym (reached-is g S) ∙ h)); untouched = refl; number = tt }
+  not-reached h g S = record { is = sym (plan-apart g (settingsOf t) (lent floats bytes output₀) (sym (reached-is g S) ∙ h)); untouched = refl; number = tt }
 
   -- ---- repair
 
-  module _ (h : b ≡ true) (cl : Bool) (ec : cl ≡ closing (settingsBack t)) (a' : Adjacency) (r : fix.Repair)
+  module _ (h : b ≡ true) (cl : Bool) (ec : cl ≡ closing (settingsOf t)) (a' : Adjacency) (r : fix.Repair)
       (F : Fixed 4000 13 n m (t .pairing) cl floats bytes xs ys a a' r) where
     outcome : Graph → retrace.Outcome
-    outcome g = parityFor mostEdges 13 g (settingsBack t) floats bytes
+    outcome g = parityFor mostEdges 13 g (settingsOf t) floats bytes
 
     fixed-in : (g : Graph) → Stored g xs ys a n m → (valueOf r ≡ answerOf g (outcome g)) × LeftIn a' (outcome g)
     unfolding outcome
-    fixed-in g S = F g (settingsBack t) (for-parity g xs ys a n m S) refl (sym ec)
+    fixed-in g S = F g (settingsOf t) (for-parity g xs ys a n m S) refl (sym ec)
 
-    planned-on : (g : Graph) → Stored g xs ys a n m → (o : retrace.Outcome) → outcome g ≡ o → graphPlan g (settingsBack t) (lent floats bytes output₀) ≡ finish g (settingsBack t) output₀ o
+    planned-on : (g : Graph) → Stored g xs ys a n m → (o : retrace.Outcome) → outcome g ≡ o → graphPlan g (settingsOf t) (lent floats bytes output₀) ≡ finish g (settingsOf t) output₀ o
     unfolding outcome
-    planned-on g S o e = plan-on g (settingsBack t) (lent floats bytes output₀) (sym (reached-is g S) ∙ h) o e
+    planned-on g S o e = plan-on g (settingsOf t) (lent floats bytes output₀) (sym (reached-is g S) ∙ h) o e
 
     pub repair-refused : (k : ℕ) → r .parity ≡ fixed-as.Refused k → PlansGraph t xs ys a n m floats bytes output₀ output₀ (Refused k)
     repair-refused k e g S = record { is = go (outcome g) refl (fixed-in g S .0); untouched = refl; number = tt }
       where
-        go : (o : retrace.Outcome) → outcome g ≡ o → valueOf r ≡ answerOf g o → plan.refusal k ≡ graphPlan g (settingsBack t) (lent floats bytes output₀)
+        go : (o : retrace.Outcome) → outcome g ≡ o → valueOf r ≡ answerOf g o → plan.refusal k ≡ graphPlan g (settingsOf t) (lent floats bytes output₀)
         go (retrace.refused j) is v = let same : k ≡ j = cc in ap plan.refusal same ∙ sym (planned-on g S (retrace.refused j) is)
         go (retrace.done l) is v = absurd (let z : _≡_ {A = ℕ} 0 1 = cc in omega arith)
 
@@ -109,15 +109,15 @@ module _ (t : Settings) (xs ys : List ℕ) (a : Adjacency) (n m floats bytes : �
     edges-held : (g : Graph) → Stored g xs ys a n m → (l : Laid) → outcome g ≡ retrace.done l → a' ≡ lists (l .edges) → r .edges ≡ length (l .edges) → EdgesHeld n (l .edges) a' (r .edges)
     unfolding outcome
     edges-held g S l is la lc =
-        let p = plan-repaired g (settingsBack t) (lent floats bytes output₀) l is in
+        let p = plan-repaired g (settingsOf t) (lent floats bytes output₀) l is in
         subst (λ (es : List Edge). EdgesHeld n es a' (r .edges)) (p .2)
-        (repaired-held g (settingsBack t) xs ys a n m S (sym (reached-is g S) ∙ h) (p .0) (p .1) a' (r .edges) (la ∙ ap lists (sym (p .2))) (lc ∙ ap length (sym (p .2))))
+        (repaired-held g (settingsOf t) xs ys a n m S (sym (reached-is g S) ∙ h) (p .0) (p .1) a' (r .edges) (la ∙ ap lists (sym (p .2))) (lc ∙ ap length (sym (p .2))))
 
     sum-held : (g : Graph) → Stored g xs ys a n m → (l : Laid) → outcome g ≡ retrace.done l → Nonneg binary64 (l .sum)
     unfolding outcome
     sum-held g S l is =
-        let p = plan-repaired g (settingsBack t) (lent floats bytes output₀) l is in
-        subst (Nonneg binary64) (p .3) (repair-summed g (settingsBack t) (subst (λ (k : ℕ). Searchable k (g .edges)) (S .nodes .count) (S .edges .searchable)) (p .0) (p .1))
+        let p = plan-repaired g (settingsOf t) (lent floats bytes output₀) l is in
+        subst (Nonneg binary64) (p .3) (repair-summed g (settingsOf t) (subst (λ (k : ℕ). Searchable k (g .edges)) (S .nodes .count) (S .edges .searchable)) (p .0) (p .1))
 
     module _ (x : Float) (before after : ℕ) (e : r .parity ≡ fixed-as.Repaired x before after) where
       left : (g : Graph) → Stored g xs ys a n m → Left g x before after
@@ -145,29 +145,29 @@ module _ (t : Settings) (xs ys : List ℕ) (a : Adjacency) (n m floats bytes : �
         line-room = let l = left (P .graph) (P .stored) in (P .stored .nodes .room, omega (arith, l .held .few))
 
         pub line-places : Places (t .width) (t .height) xs ys
-        line-places = for-places (P .graph .nodes) xs ys n (P .stored .nodes) (settingsBack t) (P .wide) (P .high)
+        line-places = for-places (P .graph .nodes) xs ys n (P .stored .nodes) (settingsOf t) (P .wide) (P .high)
 
-        module _ (inner : Bool) (ei : inner ≡ inside (settingsBack t)) (output : List ℕ) (o : Outcome)
+        module _ (inner : Bool) (ei : inner ≡ inside (settingsOf t)) (output : List ℕ) (o : Outcome)
             (E : Emitted (t .width) (t .height) inner xs ys n (a' .ends) (a' .next) (a' .heads) (r .edges) output₀ output o) where
           given : (g : Graph) (S : Stored g xs ys a n m) → (l : Left g x before after)
-              → walk.Given (settingsBack t) (g .nodes) (l .laid .edges) (t .width) (t .height) inner xs ys n (a' .ends) (a' .next) (a' .heads) (r .edges)
+              → walk.Given (settingsOf t) (g .nodes) (l .laid .edges) (t .width) (t .height) inner xs ys n (a' .ends) (a' .next) (a' .heads) (r .edges)
           given g S l =
-              subst (λ (i : Bool). walk.Given (settingsBack t) (g .nodes) (l .laid .edges) (t .width) (t .height) i xs ys n (a' .ends) (a' .next) (a' .heads) (r .edges)) (sym ei)
-              (for-line (g .nodes) xs ys n (S .nodes) (settingsBack t) (P .wide) (P .high) (l .laid .edges) a' (r .edges) (l .held))
+              subst (λ (i : Bool). walk.Given (settingsOf t) (g .nodes) (l .laid .edges) (t .width) (t .height) i xs ys n (a' .ends) (a' .next) (a' .heads) (r .edges)) (sym ei)
+              (for-line (g .nodes) xs ys n (S .nodes) (settingsOf t) (P .wide) (P .high) (l .laid .edges) a' (r .edges) (l .held))
 
           abbrev lineIn : (g : Graph) → Left g x before after → List Point
-          lineIn g l = lineOf (settingsBack t) (g .nodes) (l .laid .edges)
+          lineIn g l = lineOf (settingsOf t) (g .nodes) (l .laid .edges)
 
           pub line-short : o ≡ out.Short → PlansGraph t xs ys a n m floats bytes output₀ output (Refused 14)
           line-short eq g S =
               let l = left g S in
               let G = given g S l in
-              go l (ltb (length output₀) (6 + 16 * length (lineIn g l))) refl (E .answer (settingsBack t) (g .nodes) (l .laid .edges) G) (E .output-is (settingsBack t) (g .nodes) (l .laid .edges) G)
+              go l (ltb (length output₀) (6 + 16 * length (lineIn g l))) refl (E .answer (settingsOf t) (g .nodes) (l .laid .edges) G) (E .output-is (settingsOf t) (g .nodes) (l .laid .edges) G)
             where
               go : (l : Left g x before after) (b : Bool) → ltb (length output₀) (6 + 16 * length (lineIn g l)) ≡ b
-                  → o ≡ outcomeOf output₀ (lineIn g l) → output ≡ outputWith output₀ (lineIn g l) → Answered (Refused 14) output₀ output (graphPlan g (settingsBack t) (lent floats bytes output₀))
+                  → o ≡ outcomeOf output₀ (lineIn g l) → output ≡ outputWith output₀ (lineIn g l) → Answered (Refused 14) output₀ output (graphPlan g (settingsOf t) (lent floats bytes output₀))
               go l true eb eo' ew = record {
-                is = sym (planned-on g S (retrace.done (l .laid)) (l .is) ∙ finish-short g (settingsBack t) output₀ (l .laid) eb);
+                is = sym (planned-on g S (retrace.done (l .laid)) (l .is) ∙ finish-short g (settingsOf t) output₀ (l .laid) eb);
                 untouched = ew ∙ rw eb;
                 number = tt;
               }
@@ -177,18 +177,18 @@ module _ (t : Settings) (xs ys : List ℕ) (a : Adjacency) (n m floats bytes : �
           line-points count eq g S =
               let l = left g S in
               let G = given g S l in
-              go l (ltb (length output₀) (6 + 16 * length (lineIn g l))) refl (E .answer (settingsBack t) (g .nodes) (l .laid .edges) G) (E .output-is (settingsBack t) (g .nodes) (l .laid .edges) G)
+              go l (ltb (length output₀) (6 + 16 * length (lineIn g l))) refl (E .answer (settingsOf t) (g .nodes) (l .laid .edges) G) (E .output-is (settingsOf t) (g .nodes) (l .laid .edges) G)
             where
               go : (l : Left g x before after) (b : Bool) → ltb (length output₀) (6 + 16 * length (lineIn g l)) ≡ b
                   → o ≡ outcomeOf output₀ (lineIn g l) → output ≡ outputWith output₀ (lineIn g l)
-                  → Answered (Planned x before after count) output₀ output (graphPlan g (settingsBack t) (lent floats bytes output₀))
+                  → Answered (Planned x before after count) output₀ output (graphPlan g (settingsOf t) (lent floats bytes output₀))
               go l true eb eo' ew = absurd (let k : o ≡ out.Short = eo' ∙ rw eb in let z : _≡_ {A = ℕ} 0 1 = cc in omega arith)
               go l false eb eo' ew =
                   let k : o ≡ out.Points (length (lineIn g l)) = eo' ∙ rw eb in
                   let counted : count ≡ length (lineIn g l) = cc in
                   let w : output ≡ plan.lineRecord (lineIn g l) ++ drop (length (plan.lineRecord (lineIn g l))) output₀ = ew ∙ rw eb in
                   record {
-                    is = rw (l .sum, l .odd-before, l .odd-after, counted, w) (sym (planned-on g S (retrace.done (l .laid)) (l .is) ∙ finish-planned g (settingsBack t) output₀ (l .laid) eb));
+                    is = rw (l .sum, l .odd-before, l .odd-after, counted, w) (sym (planned-on g S (retrace.done (l .laid)) (l .is) ∙ finish-planned g (settingsOf t) output₀ (l .laid) eb));
                     untouched = tt;
                     number = subst (Nonneg binary64) (sym (l .sum)) (l .summed);
                   }

@@ -8,7 +8,7 @@ use Rattle.limits.specs.Limits.{mostSide}
 use Rattle.graph_spec.specs.Graph.{Graph}
 use Rattle.graph_adjacency.specs.Lists.{Adjacency}
 use Rattle.file_records.specs.declared.Settings.{Settings}
-use Rattle.file.specs.Held.{settingsBack}
+use Rattle.file_records.specs.Meaning.{settingsOf}
 use Rattle.planner_spec.specs.Plan as plan
 use Rattle.graph_stored.specs.Stored.{Stored}
 use Rattle.planner_graph.specs.declared.Answer.{Answer}
@@ -47,4 +47,4 @@ pub record Plannable (t : Settings) (xs ys : List ℕ) (a : Adjacency) (n m : �
 
 -- the answer is the plan of whatever graph the arrays hold
 abbrev pub PlansGraph : Settings → List ℕ → List ℕ → Adjacency → ℕ → ℕ → ℕ → ℕ → List ℕ → List ℕ → Answer → Type 0
-PlansGraph t xs ys a n m floats bytes output₀ output r = (g : Graph) → Stored g xs ys a n m → Answered r output₀ output (graphPlan g (settingsBack t) (lent floats bytes output₀))
+PlansGraph t xs ys a n m floats bytes output₀ output r = (g : Graph) → Stored g xs ys a n m → Answered r output₀ output (graphPlan g (settingsOf t) (lent floats bytes output₀))

@@ -19,7 +19,8 @@ use Rattle.repair_spec.specs.Pairing.{Pair}
 use Rattle.repair_spec.specs.Repair.{pairsOf, tooManyOdd, tableShort}
 use Rattle.repair_copies.specs.Laying.{laidOf}
 use Rattle.graph_arrays.specs.Read.{edgesIn, graphIn}
-use Rattle.repair_retrace.specs.Apply.{Outcome, refused, done, applyPairs, pairsIn}
+use Rattle.repair_retrace.specs.Apply.{Outcome, refused, done, applyPairs}
+use Rattle.repair_spec.specs.PairsIn.{pairsIn}
 use Rattle.repair_retrace.specs.Answer.{Gives}
 use Rattle.repair_retrace.specs.declared.Applied.{Applied}
 use Rattle.repair_retrace.specs.declared.Applied.the-variants.{Repaired, Refused}

@@ -21,7 +21,7 @@ use Rattle.repair_spec.proofs.Pairs.{ends, AllButTwo, greedy-pairs}
 use Rattle.repair_spec.proofs.Matched.{optimal-pairs}
 use Rattle.repair_spec.specs.Repair.{rows, distanceIn, pairsOf}
 use Rattle.repair_greedy.specs.Rounds.{Written}
-use Rattle.repair_retrace.specs.Apply.{pairsIn}
+use Rattle.repair_spec.specs.PairsIn.{pairsIn}
 use Rattle.repair_pairs.proofs.Few.{pairs-few}
 use Rattle.repair.proofs.Stored.{front-at}
 

@@ -11,7 +11,8 @@ use Rattle.graph_adjacency.specs.Lists.{Adjacency}
 use Rattle.repair_spec.specs.Retrace.{Laid}
 use Rattle.repair_spec.specs.Pairing.{Pair, pair}
 use Rattle.repair_copies.specs.Laying.{laidOf}
-use Rattle.repair_retrace.specs.Apply.{Outcome, refused, done, applyPair, applyPairs, pairsIn, Holds, Ready}
+use Rattle.repair_retrace.specs.Apply.{Outcome, refused, done, applyPair, applyPairs, Holds, Ready}
+use Rattle.repair_spec.specs.PairsIn.{pairsIn}
 use Rattle.repair_retrace.proofs.Apply.{pair-leaves, pairs-on, pairs-refused, pairs-none}
 use Rattle.repair_retrace.specs.Answer.{Gives, PairApplied, AllApplied}
 use Rattle.repair_retrace.specs.declared.Applied.the-variants.{Repaired, Refused}

@@ -32,11 +32,6 @@ unfoldable pub applyPairs : ℕ → ℕ → ℕ → List Pair → Laid → Outco
 applyPairs most number n [] l = done l
 applyPairs most number n (p ∷ ps) l = elim (applyPair most number n p l) [ refused k ↦ refused k | done l' ↦ applyPairs most number n ps l' ]
 
--- the pairs that two lists have from the place i on, k of them
-unfoldable pub pairsIn : List ℕ → List ℕ → ℕ → ℕ → List Pair
-pairsIn firsts seconds i zero = []
-pairsIn firsts seconds i (suc k) = pair (getD firsts i 0) (getD seconds i 0) ∷ pairsIn firsts seconds (suc i) k
-
 -- ---- what code goes on with
 
 -- the arrays hold the edges es, which can be searched

@@ -3,6 +3,7 @@
 pub mod Distance
 pub mod Retrace
 pub mod Pairing
+pub mod PairsIn
 pub mod Repair
 -- Distances are the least over all ways (Cost says what a way costs, Rounds has the argument, Least the theorem):
 pub mod Cost

@@ -9,7 +9,7 @@ use Rattle.graph_adjacency.specs.Lists.{Adjacency, adjacency}
 use Rattle.repair_spec.specs.Distance.{zeroLength}
 use Rattle.repair_spec.specs.Pairing.{Pair}
 use Rattle.repair_retrace.specs.declared.Applied.{Applied}
-use Rattle.repair_retrace.specs.Apply.{pairsIn}
+use Rattle.repair_spec.specs.PairsIn.{pairsIn}
 use Rattle.repair_retrace.specs.Answer.{AllApplied}
 use Rattle.repair_closing.specs.Answer.{AllClosed}
 use Rattle.repair_closing.proofs.Answer.{pairs-refuse, pairs-ready, pairs-close}

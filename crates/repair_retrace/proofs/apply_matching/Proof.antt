@@ -6,7 +6,7 @@ use lib.ListN.{getD}
 use borrow.Author.Needs.{needs}
 use Rattle.graph_adjacency.specs.Lists.{Adjacency, adjacency}
 use Rattle.repair_retrace.specs.declared.Applied.{Applied}
-use Rattle.repair_retrace.specs.Apply.{pairsIn}
+use Rattle.repair_spec.specs.PairsIn.{pairsIn}
 use Rattle.repair_retrace.specs.Answer.{PairApplied, AllApplied}
 use Rattle.repair_retrace.proofs.Matching.{Applying, applying-begin, applying-ready, applying-refused, applying-step, applying-end}
 use Rattle.repair_retrace.proofs.apply_matching.Statement.{statement}
