@@ -66,6 +66,11 @@ def named(number, findings=()):
     return Refusal(number, condition, list(findings), remedy)
 
 
+def by_the_planner(file, number):
+    """The refusal that the planner gave a file to which conditions 1 to 11 don't apply."""
+    return named(number, odd_points(graph(f.assembled(f.split(file)[0]))) if number == 13 else ())
+
+
 def count(number, word):
     return f"{number:,} {word}" + ("" if number == 1 else "s")
 
@@ -265,7 +270,7 @@ def joining(made, reached, inside):
         best = min((squared(p, q), p, s, q, t) for s in ends[0] for t in ends[1] for p, q in nearest(s, t))
     _, p, s, q, t = best
     ends = [f"line {line} segment {segment} {point_text(pixels(at))}" for (line, segment, *_), at in ((s, p), (t, q))]
-    crossed = f", but line {t[0]} crosses line {s[0]} near {point_text(pixels(p))}" if crosses else ""
+    crossed = f", but line {t[0]} meets line {s[0]} near {point_text(pixels(p))}" if crosses else ""
     return f"{crossed}; a link that would join them: link {ends[0]} to {ends[1]}"
 
 
