@@ -241,8 +241,10 @@ def of_plan(file, answer, title="drawing"):
         marks.append(f'<circle class="start" cx="{number(first[0])}" cy="{number(first[1])}" r="6.5"/>')
         marks.append(label(sheet, first, "start and end" if closed else "start"))
     # round numbers first, so that they stay where there is no room for all
+    apart = 1 if len(steps) <= 250 else 5 if len(steps) <= 1000 else 25
+    numbered = [i for i in range(len(steps)) if (i + 1) % apart == 0]
     numbers = {}
-    for i in sorted(range(len(steps)), key=lambda i: ((i + 1) % 10 != 0, (i + 1) % 5 != 0, i)):
+    for i in sorted(numbered, key=lambda i: ((i + 1) % 10 != 0, (i + 1) % 5 != 0, i)):
         numbers[i] = step_number(sheet, ways[i], str(i + 1))
     names = {"piece": "drawn", "link": "link", "retrace": "retrace"}
     for i, (s, way) in enumerate(zip(steps, ways)):
@@ -253,7 +255,7 @@ def of_plan(file, answer, title="drawing"):
     rows = [legend([(kind, f"{names[kind]} ({count[kind]})") for kind in ("piece", "link", "retrace")]),
             f"{len(steps)} steps; {answer.retrace:.6g} pixels retraced; odd points before repair {answer.before}, after {answer.after}"]
     rows += canvas_row(sheet)
-    return page(sheet, parts + [numbers[i] for i in range(len(steps))] + marks, rows, f"{title}: the line as it is drawn")
+    return page(sheet, parts + [numbers[i] for i in numbered] + marks, rows, f"{title}: the line as it is drawn")
 
 
 def canvas_row(sheet):
