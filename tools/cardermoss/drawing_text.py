@@ -148,6 +148,7 @@ class Text:
         missing = [word for word in ("canvas", "pairing", "flags") if word not in self.settings]
         if missing:
             self.errors.append((self.row, f"no row before this one says {' and '.join(missing)}"))
+        if any(value is None for _, value in self.settings.values()) or missing:
             return
         width, height = self.settings["canvas"][1]
         self.parts.append(f.settings(width, height, self.settings["pairing"][1], self.settings["flags"][1]))
@@ -158,6 +159,7 @@ class Text:
             raise Unreadable(f"{word} stands behind a line or a link")
         if word in self.settings:
             raise Unreadable(f"{word} is said twice")
+        self.settings[word] = (self.row, None)  # until its value is read
         if word == "canvas":
             sides = rest.split()
             if len(sides) != 2:
