@@ -151,8 +151,8 @@ mod exported {
         pub points: usize,
     }
 
+    // A slice passes as a pointer, then a length. (In edition 2024 this begins with `unsafe extern`.)
     extern "C" {
-        // A slice passes as a pointer, then a length.
         pub fn plan(
             file: *const u8,
             file_length: usize,

@@ -15,12 +15,10 @@ def squared(p, q):
 
 
 def chain(start, end, split_points):
-    """A segment's start, the split points that are kept, in order, and its end."""
-    kept = []
-    for point in sorted(split_points, key=lambda p: squared(start, p)):
-        if point not in (start, end) and point != (kept or [None])[-1]:
-            kept.append(point)
-    return [start, *kept, end]
+    """A segment's start, its split points in order, and its end. Of equal points that follow each other `build_graph`
+    keeps one; here they stay, since no piece lies between them."""
+    inside = [p for p in split_points if p not in (start, end)]
+    return [start, *sorted(inside, key=lambda p: squared(start, p)), end]
 
 
 class Joined:

@@ -13,7 +13,7 @@ from .refusals import pixels, told
 
 SIDE, LEAST, MARGIN, ROW = 840, 120, 48, 20     # the sheet, in its own units: longer side, least side, margin, row of text
 GAP = 9                                         # between the furrows of one stroke
-LETTER = 6.2                                    # the mean width of a letter of a label
+LETTER = 0.57                                   # the mean width of a letter, in parts of its size
 
 STYLE = """
 .sheet { fill: #fbf6ea } .canvas { fill: #f1e4c8; stroke: #d9c59a }
@@ -22,8 +22,8 @@ STYLE = """
 .wrong { stroke: #c1121f; stroke-width: 4.5 } .ring { fill: none; stroke: #c1121f; stroke-width: 2.4 }
 .arrow { stroke: none } .of-piece { fill: #4b3621 } .of-link { fill: #1769aa } .of-retrace { fill: #d1495b } .of-wrong { fill: #c1121f }
 .start { fill: #2a7f3f } .end { fill: #c1121f }
-text { font-family: sans-serif; font-size: 13px; fill: #2b2118 }
-.label { font-size: 11px; paint-order: stroke; stroke: #fbf6ea; stroke-width: 3px; stroke-linejoin: round }
+text { font-family: sans-serif; fill: #2b2118 }
+.label { paint-order: stroke; stroke: #fbf6ea; stroke-width: 3px; stroke-linejoin: round }
 """
 
 Step = collections.namedtuple("Step", "p q kind furrow")
@@ -63,22 +63,23 @@ class Sheet:
             box, extent = [box[0] - 1, box[1] - 1, box[2] + 1, box[3] + 1], 2
         self.box, self.scale = box, SIDE / extent if extent else 1.0
         self.width, self.height = (max(LEAST, (box[i + 2] - box[i]) * self.scale) + 2 * MARGIN for i in (0, 1))
+        self.size = 13                          # of the letters of labels
         self.taken = []                         # boxes of labels and marks
         self.strokes = collections.defaultdict(list)  # points along the strokes, by squares of 16
 
-    def stroke(self, way):
-        """Has labels keep clear of a way."""
+    def stroke(self, way, name=None):
+        """Has labels, and the arrows of other strokes, keep clear of a way."""
         for a, b in zip(way, way[1:]):
             parts = max(1, round(distance(a, b) / 5))
             for k in range(parts + 1):
                 x, y = (a[i] + (b[i] - a[i]) * k / parts for i in (0, 1))
-                self.strokes[int(x // 16), int(y // 16)].append((x, y))
+                self.strokes[int(x // 16), int(y // 16)].append((x, y, name))
 
-    def crossed(self, box):
-        """Whether a stroke goes through a box."""
-        return any(box[0] < x < box[2] and box[1] < y < box[3]
+    def crossed(self, box, but=-1):
+        """Whether a stroke, but for the one of this name, goes through a box."""
+        return any(box[0] < x < box[2] and box[1] < y < box[3] and name != but
                    for i in range(int(box[0] // 16), int(box[2] // 16) + 1) for j in range(int(box[1] // 16), int(box[3] // 16) + 1)
-                   for x, y in self.strokes.get((i, j), ()))
+                   for x, y, name in self.strokes.get((i, j), ()))
 
     def place(self, point):
         """A point given in pixels, on the sheet."""
@@ -124,49 +125,53 @@ def furrow(a, b, which):
     return [a, tuple(a[i] + along[i] * run + aside[i] for i in (0, 1)), tuple(b[i] - along[i] * run + aside[i] for i in (0, 1)), b]
 
 
-def head(way):
-    """Where a way's arrow stands, its direction, and the length of the part that it stands on. Furrows side by side have
-    theirs at different places."""
+Head = collections.namedtuple("Head", "x y dx dy length")
+
+
+def head(sheet, way, name):
+    """Where a way's arrow stands, clear of other strokes if it can, its direction, and the length of the part that it
+    stands on. Furrows side by side have theirs at different places."""
     a, b = way[1:3] if len(way) > 2 else way
-    part = 0.4 if len(way) > 2 else 0.5
     length = distance(a, b) or 1.0
-    return tuple(a[i] + (b[i] - a[i]) * part for i in (0, 1)), tuple((b[i] - a[i]) / length for i in (0, 1)), length
+    dx, dy = ((b[i] - a[i]) / length for i in (0, 1))
+    heads = [Head(a[0] + dx * length * part, a[1] + dy * length * part, dx, dy, length)
+             for part in ((0.4, 0.3, 0.55, 0.7) if len(way) > 2 else (0.5, 0.6, 0.35, 0.7, 0.25))]
+    return next((h for h in heads if not sheet.crossed((h.x - 7, h.y - 7, h.x + 7, h.y + 7), name)), heads[0])
 
 
-def arrow(way, kind):
-    (x, y), (dx, dy), length = head(way)
-    if length < 8:
+def arrow(h, kind):
+    if h.length < 8:
         return ""
-    size = 5.5 if length > 20 else 3.5
-    tips = [(x + dx * size, y + dy * size), (x - dx * size - dy * size * 0.8, y - dy * size + dx * size * 0.8),
-            (x - dx * size + dy * size * 0.8, y - dy * size - dx * size * 0.8)]
+    size = 5.5 if h.length > 20 else 3.5
+    tips = [(h.x + h.dx * size * ahead - h.dy * size * aside, h.y + h.dy * size * ahead + h.dx * size * aside)
+            for ahead, aside in ((1, 0), (-1, 0.8), (-1, -0.8))]
     return f'<path class="arrow of-{kind}" d="{route(tips)} Z"/>'
 
 
-def text(x, y, words, kind="label", anchor="middle"):
-    return f'<text class="{kind}" x="{number(x)}" y="{number(y)}" text-anchor="{anchor}">{escape(words)}</text>'
+def text(x, y, words, kind="caption", anchor="start", size=13):
+    return f'<text class="{kind}" x="{number(x)}" y="{number(y)}" font-size="{size}px" text-anchor="{anchor}">{escape(words)}</text>'
+
+
+def label_at(sheet, places, words):
+    """A label at the first of these places where there is room; nothing where there is none."""
+    at = sheet.room(places, LETTER * sheet.size * len(words) + 4, sheet.size + 1)
+    return text(at[0], at[1] + 0.35 * sheet.size, words, "label", "middle", sheet.size) if at else ""
 
 
 def label(sheet, around, words, near=11):
-    """A label near a place; nothing where there is no room."""
-    wide = LETTER * len(words) + 4
+    """A label near a place."""
+    half = LETTER * sheet.size * len(words) / 2
     ways = ((1, 0), (-1, 0), (0, -1), (0, 1), (0.7, 0.7), (-0.7, -0.7), (0.7, -0.7), (-0.7, 0.7))
-    places = [(around[0] + dx * (out + wide / 2 - 4), around[1] + dy * (out + 2)) for out in (near, near + 8) for dx, dy in ways]
-    at = sheet.room(places, wide, 13)
-    return text(at[0], at[1] + 4, words) if at else ""
+    return label_at(sheet, [(around[0] + dx * (out + half), around[1] + dy * (out + 4)) for out in (near, near + 8) for dx, dy in ways], words)
 
 
-def step_number(sheet, way, words):
-    """A step's number beside its arrow, on either side; nothing where there is no room."""
-    (x, y), (dx, dy), length = head(way)
-    wide = LETTER * len(words) + 2
-    if length < 8:
+def step_number(sheet, h, words):
+    """A step's number beside its arrow, on either side."""
+    if h.length < 8:
         return ""
-    out = 5 + (wide * abs(dy) + 12 * abs(dx)) / 2
-    places = [(x + dx * length * part - dy * out * side, y + dy * length * part + dx * out * side)
-              for part in (0, 0.2, -0.2, 0.35, -0.35) for side in (1, -1)]
-    at = sheet.room(places, wide, 12)
-    return text(at[0], at[1] + 4, words) if at else ""
+    out = 6 + ((LETTER * sheet.size * len(words) + 2) * abs(h.dy) + sheet.size * abs(h.dx)) / 2
+    return label_at(sheet, [(h.x + h.dx * h.length * part - h.dy * out * side, h.y + h.dy * h.length * part + h.dx * out * side)
+                            for part in (0, 0.15, -0.15, 0.3, -0.3) for side in (1, -1)], words)
 
 
 def floats(point):
@@ -191,7 +196,7 @@ def page(sheet, parts, rows, title):
     out += parts
     for i, row in enumerate(rows):
         y = low + 6 + ROW * i
-        out.append(row(y) if callable(row) else text(MARGIN + 6 * (len(row) - len(row.lstrip())), y, row.lstrip(), "caption", "start"))
+        out.append(row(y) if callable(row) else text(MARGIN + 6 * (len(row) - len(row.lstrip())), y, row.lstrip()))
     return "\n".join([part for part in out if part] + ["</svg>"]) + "\n"
 
 
@@ -201,7 +206,7 @@ def legend(kinds):
         x, out = MARGIN, []
         for kind, words in kinds:
             out.append(f'<path class="{kind}" d="{route([(x, y - 4), (x + 34, y - 4)])}"/>')
-            out.append(text(x + 42, y, words, "caption", "start"))
+            out.append(text(x + 42, y, words))
             x += 62 + 7.4 * len(words)
         return "".join(out)
     return at
@@ -228,8 +233,10 @@ def of_plan(file, answer, title="drawing"):
     steps = list(steps_of(made, answer.points))
     ways = [furrow(place(s.p), place(s.q), s.furrow) for s in steps]
     marks, parts = [], []
-    for way in ways:
-        sheet.stroke(way)
+    sheet.size = 15 if len(steps) <= 40 else 11
+    for name, way in enumerate(ways):
+        sheet.stroke(way, name)
+    heads = [head(sheet, way, name) for name, way in enumerate(ways)]
     if answer.points:
         first, last = place(answer.points[0]), place(answer.points[-1])
         closed = answer.points[0] == answer.points[-1]
@@ -245,12 +252,12 @@ def of_plan(file, answer, title="drawing"):
     numbered = [i for i in range(len(steps)) if (i + 1) % apart == 0]
     numbers = {}
     for i in sorted(numbered, key=lambda i: ((i + 1) % 10 != 0, (i + 1) % 5 != 0, i)):
-        numbers[i] = step_number(sheet, ways[i], str(i + 1))
+        numbers[i] = step_number(sheet, heads[i], str(i + 1))
     names = {"piece": "drawn", "link": "link", "retrace": "retrace"}
     for i, (s, way) in enumerate(zip(steps, ways)):
         words = f"step {i + 1}: {point_text(pixels(s.p))} to {point_text(pixels(s.q))}, {names[s.kind]}"
         parts.append(f'<g class="step" data-step="{i + 1}"><title>{escape(words)}</title>'
-                     f'<path class="{s.kind}" d="{route(way)}"/>{arrow(way, s.kind)}</g>')
+                     f'<path class="{s.kind}" d="{route(way)}"/>{arrow(heads[i], s.kind)}</g>')
     count = collections.Counter(s.kind for s in steps)
     rows = [legend([(kind, f"{names[kind]} ({count[kind]})") for kind in ("piece", "link", "retrace")]),
             f"{len(steps)} steps; {answer.retrace:.6g} pixels retraced; odd points before repair {answer.before}, after {answer.after}"]

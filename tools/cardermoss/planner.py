@@ -4,7 +4,6 @@ import os
 import struct
 import subprocess
 
-from . import drawing_file as f
 from .drawing_text import Text
 
 ROOT = os.path.dirname(os.path.dirname(os.path.dirname(os.path.abspath(__file__))))
@@ -48,12 +47,11 @@ def loaded(path):
         if not path.endswith(".txt"):
             return data
         text = Text(data.decode("utf-8-sig"))
-    except (OSError, UnicodeDecodeError) as wrong:
-        raise Wrong(f"{path}: {wrong}") from None
+    except OSError as wrong:
+        raise Wrong(f"{path}: {wrong.strerror}") from None
+    except UnicodeDecodeError:
+        raise Wrong(f"{path}: this is no text in UTF-8") from None
     if text.errors:
         raise Wrong("\n".join(f"{path}:{row}: {words}" for row, words in text.errors))
     return text.file
 
-
-def pixels(steps):
-    return steps / f.STEPS
