@@ -11,7 +11,7 @@ from .drawing_text import coordinate_text, point_text
 from .graph import graph
 from .refusals import pixels, told
 
-SIDE, LEAST, MARGIN, ROW = 840, 120, 48, 20     # the sheet, in its own units: longer side, least side, margin, row of text
+SIDE, LEAST, MARGIN, ROW = 840, (480, 120), 48, 20  # the sheet, in its own units: longer side, least sides, margin, row of text
 GAP = 9                                         # between the furrows of one stroke
 LETTER = 0.57                                   # the mean width of a letter, in parts of its size
 
@@ -30,19 +30,29 @@ Step = collections.namedtuple("Step", "p q kind furrow")
 
 
 def steps_of(made, points):
-    """The steps of a line, each with its kind and its furrow: how many steps lay between the same two points before it.
+    """The steps of a line, each with its kind and its furrow.
 
-    The first ones there are the pieces, then the links; every later one is a retrace, since a retrace goes over what
-    is already drawn and steps between two points can't be told apart."""
+    The first steps between two points are the pieces there, then the links; every later one is a retrace, since a retrace
+    goes over what is already drawn and steps between two points can't be told apart. The furrow is 0, or the first one
+    that no earlier step has where the two lie on one another."""
     pair = lambda p, q: (min(p, q), max(p, q))
     pieces = collections.Counter(pair(p, q) for p, q, *_ in made.pieces)
     links = collections.Counter(pair(l.a, l.b) for l in made.links if l.a != l.b)
-    passed = collections.Counter()
+    passed, straight = collections.Counter(), collections.defaultdict(list)
     for p, q in zip(points, points[1:]):
-        among, before = pair(p, q), passed[pair(p, q)]
+        among = pair(p, q)
+        before = passed[among]
         passed[among] += 1
         kind = "piece" if before < pieces[among] else "link" if before < pieces[among] + links[among] else "retrace"
-        yield Step(p, q, kind, before)
+        # the straight line that the step lies on, and from where to where
+        dx, dy = (among[1][i] - among[0][i] for i in (0, 1))
+        dx, dy = dx // math.gcd(dx, dy), dy // math.gcd(dx, dy)
+        earlier = straight[dx, dy, dx * p[1] - dy * p[0]]
+        start, end = (dx * at[0] + dy * at[1] for at in among)
+        taken = {which for a, b, which in earlier if a < end and start < b}
+        which = next(i for i in range(len(taken) + 1) if i not in taken)
+        earlier.append((start, end, which))
+        yield Step(p, q, kind, which)
 
 
 class Sheet:
@@ -62,7 +72,7 @@ class Sheet:
         elif extent == 0:
             box, extent = [box[0] - 1, box[1] - 1, box[2] + 1, box[3] + 1], 2
         self.box, self.scale = box, SIDE / extent if extent else 1.0
-        self.width, self.height = (max(LEAST, (box[i + 2] - box[i]) * self.scale) + 2 * MARGIN for i in (0, 1))
+        self.width, self.height = (max(LEAST[i], (box[i + 2] - box[i]) * self.scale) + 2 * MARGIN for i in (0, 1))
         self.size = 13                          # of the letters of labels
         self.taken = []                         # boxes of labels and marks
         self.strokes = collections.defaultdict(list)  # points along the strokes, by squares of 16

@@ -29,14 +29,16 @@ def parsed(text):
     return Answer(0, struct.unpack(">d", bytes.fromhex(head[1]))[0], int(head[2]), int(head[3]), points)
 
 
-def printed(file, path):
-    """What the program at this path prints for a drawing file."""
-    run = subprocess.run([path], input=file, stdout=subprocess.PIPE, check=True)
-    return run.stdout.decode("ascii")
-
-
 class Wrong(Exception):
     """What stops a command, in words."""
+
+
+def printed(file, path):
+    """What the program at this path prints for a drawing file."""
+    if not os.access(path, os.X_OK):
+        raise Wrong(f"{path} is not built: `rt check plan` builds it")
+    run = subprocess.run([path], input=file, stdout=subprocess.PIPE, check=True)
+    return run.stdout.decode("ascii")
 
 
 def loaded(path):
