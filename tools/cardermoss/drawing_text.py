@@ -95,7 +95,8 @@ class Text:
 
     def __init__(self, text):
         self.file, self.rows, self.errors, self.off, self.notes = b"", [], [], [], []
-        self.lines = []       # the lines so far, as patterns
+        self.lines = []       # the lines so far, as patterns; None for one that can't be read
+        self.in_steps = {}    # those that a link names, in grid steps
         self.settings = {}    # the rows of settings before the first record
         self.parts = None     # the records, once the settings are over
         self.row = 0
@@ -107,7 +108,8 @@ class Text:
                 if word in ("canvas", "pairing", "flags"):
                     self.setting(word, rest)
                 elif word == "line":
-                    self.lines.append(self.points(rest))
+                    self.lines.append(None)
+                    self.lines[-1] = self.points(rest)
                     self.add(f.record(f.LINE, patterns(p for point in self.lines[-1] for p in point)))
                 elif word == "link":
                     links.append((self.row, self.add(None), rest))
@@ -217,14 +219,19 @@ class Text:
         if len(inside) != 1:
             raise Unreadable(f"'{point}' is no point")
         point = inside[0]
-        on = segments_with(self.lines[line], point) if line < len(self.lines) else []
+        if line < len(self.lines) and self.lines[line] is None:
+            return line, 0, point  # that row was told already
+        if line not in self.in_steps and line < len(self.lines):
+            self.in_steps[line] = [f.in_steps(p) for p in self.lines[line]]
+        on = segments_with(self.in_steps.get(line, []), f.in_steps(point))
         if segment is not None:
             segment = whole(segment, 0xFFFF)
             points = len(self.lines[line]) if line < len(self.lines) else 0
             if points == 1 and segment == 0 and not on:
                 self.notes.append((self.row, f"{point_text(point)} is not the point of line {line}, a dot: the link won't join it"))
             elif segment < points - 1 and segment not in on:
-                self.notes.append((self.row, f"{point_text(point)} does not lie on segment {segment} of line {line}, which will bend to it"))
+                self.notes.append((self.row, f"{point_text(point)} does not lie on segment {segment} of line {line}, "
+                                             "which will bend to it"))
             return line, segment, point
         if line >= len(self.lines):
             raise Unreadable(f"there is no line {line}")
@@ -237,8 +244,8 @@ class Text:
 
 
 def segments_with(line, point):
-    """The segments of a line, given in patterns, that a point lies on; a dot is segment 0."""
-    point, line = f.in_steps(point), [f.in_steps(p) for p in line]
+    """The segments of a line that a point lies on, all in grid steps; a dot is segment 0. Nothing is said of a line or a
+    point off the grid."""
     if None in point or any(None in p for p in line):
         return []
     pairs = zip(line, line[1:] if len(line) > 1 else line)

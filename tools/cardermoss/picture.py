@@ -93,10 +93,12 @@ class Sheet:
 
     def place(self, point):
         """A point given in pixels, on the sheet."""
-        clamped = [max(self.box[i] - MARGIN / 2 / self.scale, min(self.box[i + 2] + MARGIN / 2 / self.scale, c)) if c == c else self.box[i]
-                   for i, c in enumerate(point)]
-        inside = [(size - 2 * MARGIN - (self.box[i + 2] - self.box[i]) * self.scale) / 2 for i, size in enumerate((self.width, self.height))]
-        return tuple(MARGIN + inside[i] + (c - self.box[i]) * self.scale for i, c in enumerate(clamped))
+        out = []
+        for low, high, size, c in zip(self.box, self.box[2:], (self.width, self.height), point):
+            edge = MARGIN / 2 / self.scale
+            shown = max(low - edge, min(high + edge, c)) if c == c else low
+            out.append((size - (high - low) * self.scale) / 2 + (shown - low) * self.scale)
+        return tuple(out)
 
     def room(self, places, wide, high):
         """The first of these places where a label of this size touches no label and no stroke, or failing that no label;
@@ -172,7 +174,8 @@ def label(sheet, around, words, near=11):
     """A label near a place."""
     half = LETTER * sheet.size * len(words) / 2
     ways = ((1, 0), (-1, 0), (0, -1), (0, 1), (0.7, 0.7), (-0.7, -0.7), (0.7, -0.7), (-0.7, 0.7))
-    return label_at(sheet, [(around[0] + dx * (out + half), around[1] + dy * (out + 4)) for out in (near, near + 8) for dx, dy in ways], words)
+    places = [(around[0] + dx * (out + half), around[1] + dy * (out + 4)) for out in (near, near + 8) for dx, dy in ways]
+    return label_at(sheet, places, words)
 
 
 def step_number(sheet, h, words):

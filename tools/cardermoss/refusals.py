@@ -137,7 +137,8 @@ def out_of_order(file, records, cut):
 def wrong_length(file, records, cut):
     for number, r in enumerate(records):
         if not f.length_fits(r.kind, len(r.body)):
-            yield Finding(f"record {number}, at byte {r.place:,}, is {kind_words(r.kind)} with a body of {count(len(r.body), 'byte')}", number)
+            yield Finding(f"record {number}, at byte {r.place:,}, is {kind_words(r.kind)} with a body of "
+                          f"{count(len(r.body), 'byte')}", number)
 
 
 def setting_out_of_range(file, records, cut):
