@@ -208,7 +208,8 @@ def link_astray(file, records, cut):
         for end, line, segment, point in (("first", link.line_a, link.segment_a, link.a), ("second", link.line_b, link.segment_b, link.b)):
             wrong = astray(lines, line, segment)
             if wrong:
-                yield Finding(f"link {place}, its {end} end at {point_text(point)}, names {wrong}", number, [point], [(link.a, link.b)])
+                yield Finding(f"link {place}, its {end} end at {point_text(point)}, names {wrong}", number, [point],
+                              [(link.a, link.b)] if link.a != link.b else [])
 
 
 def astray(lines, line, segment):
