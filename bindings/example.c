@@ -14,6 +14,14 @@
 #include <stdlib.h>
 #include <string.h>
 
+/* as the archive is compiled */
+_Static_assert(sizeof(struct planner_outcome) == 40, "the outcome's size");
+_Static_assert(sizeof((struct planner_outcome){0}.refusal) == 4, "refusal is a uint32_t");
+_Static_assert(offsetof(struct planner_outcome, retrace) == 8, "retrace");
+_Static_assert(offsetof(struct planner_outcome, before) == 16, "before");
+_Static_assert(offsetof(struct planner_outcome, after) == 24, "after");
+_Static_assert(offsetof(struct planner_outcome, points) == 32, "points");
+
 enum { MOST_FILE = 1 << 20, UNTOUCHED = 0xA5 };
 
 static double coordinate(const uint8_t *from)
