@@ -4,7 +4,7 @@
  *     ./example DRAWING                          with what `plan` lends
  *     ./example DRAWING FLOATS BYTES OUTPUT      with tables and an output of these lengths
  *
- * It also sees whether the planner kept its word about what it was lent: tables zero, the output's other bytes as they
+ * It also sees whether the planner kept its contract about what it was lent: tables zero, the output's other bytes as they
  * were. If not, it says so and ends with status 3.
  */
 #include "planner.h"

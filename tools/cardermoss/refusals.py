@@ -1,6 +1,6 @@
 """Why a drawing is refused, in words: conditions 1 to 11 of docs/DRAWING-FILE.md, from the file alone.
 
-12 to 14 hang on the planner's own work: for these the planner's answer is asked, and `named` has the words.
+12 to 14 depend on the planner's own work: for these the planner is asked, and `by_the_planner` has the words.
 """
 import collections
 import math
