@@ -7,6 +7,7 @@ use Prim.Native.Nat.{ℕ, _+_, _*_, _^_, _<_}
 use native.Mathlib.Omega.{arith}
 use lib.ListN.{length}
 use borrow.Author.Tests.{not-false, eqb-false}
+use Rattle.limits.specs.Limits.{mostEdges, refusedPath, refusedEdges}
 use Rattle.drawing_spec.specs.Drawing.{Point, Drawing}
 use Rattle.drawing_spec.specs.Refusal.{Verdict, refused, accepted, verdict}
 use Rattle.drawing_spec.specs.Members.{All}
@@ -56,8 +57,8 @@ accepts file lent answer e = go (verdict (readConditions file)) (verdict (planCo
 -- every node is reached, and repair was not stopped
 record Passes (file : List ℕ) : Type 0 where
   connected : allReached (length (graphIn file .nodes)) (graphIn file .edges) ≡ true
-  not12 : stoppedBy 12 (repairIn file) ≡ false
-  not13 : stoppedBy 13 (repairIn file) ≡ false
+  not12 : stoppedBy refusedPath (repairIn file) ≡ false
+  not13 : stoppedBy refusedEdges (repairIn file) ≡ false
 
 passes : (file : List ℕ) (lent : Lent) → verdict (planConditions file lent) ≡ accepted → Passes file
 unfolding planConditions
@@ -66,20 +67,20 @@ passes file lent e =
     record { connected = not-false (allReached (length (graphIn file .nodes)) (graphIn file .edges)) (c .0); not12 = c .1 .1 .1 .0; not13 = c .1 .1 .1 .1 .0 }
 
 -- so there is a repair
-stops-in : (file : List ℕ) (k : ℕ) → repairIn file ≡ stopped k → (k ≡ 12) ⊎ (k ≡ 13)
+stops-in : (file : List ℕ) (k : ℕ) → repairIn file ≡ stopped k → (k ≡ refusedPath) ⊎ (k ≡ refusedEdges)
 unfolding repairIn
-stops-in file k e = stops (graphIn file) (drawingIn file .settings) k e
+stops-in file k e = stops mostEdges refusedEdges (graphIn file) (drawingIn file .settings) k e
 
 repair-of : (file : List ℕ) → Passes file → (r : Repair) × (repairIn file ≡ repaired r)
 repair-of file p = go (repairIn file) refl (p .not12) (p .not13)
   where
-    go : (x : Repairing) → repairIn file ≡ x → stoppedBy 12 x ≡ false → stoppedBy 13 x ≡ false → (r : Repair) × (repairIn file ≡ repaired r)
+    go : (x : Repairing) → repairIn file ≡ x → stoppedBy refusedPath x ≡ false → stoppedBy refusedEdges x ≡ false → (r : Repair) × (repairIn file ≡ repaired r)
     go (repaired r) e a b = (r, e)
-    go (stopped k) e a b = elim (stops-in file k e) [ inl q ↦ absurd (eqb-false k 12 a q) | inr q ↦ absurd (eqb-false k 13 b q) ]
+    go (stopped k) e a b = elim (stops-in file k e) [ inl q ↦ absurd (eqb-false k refusedPath a q) | inr q ↦ absurd (eqb-false k refusedEdges b q) ]
 
-fixed-in : (file : List ℕ) (r : Repair) → repairIn file ≡ repaired r → Repaired (buildGraph (drawingIn file)) (drawingIn file .settings) r
+fixed-in : (file : List ℕ) (r : Repair) → repairIn file ≡ repaired r → Repaired mostEdges (buildGraph (drawingIn file)) (drawingIn file .settings) r
 unfolding repairIn graphIn
-fixed-in file r e = fixed (graphIn file) (drawingIn file .settings) (built-inside (drawingIn file)) r e
+fixed-in file r e = fixed mostEdges refusedEdges (graphIn file) (drawingIn file .settings) (built-inside (drawingIn file)) r e
 
 reached-in : (file : List ℕ) → Passes file → (v : ℕ) → v < length (buildGraph (drawingIn file) .nodes) → Reach (buildGraph (drawingIn file) .edges) 0 v
 unfolding graphIn
@@ -93,7 +94,7 @@ module _ (file : List ℕ) (read : verdict (readConditions file) ≡ accepted) (
   abbrev d : Drawing
   d = drawingIn file
 
-  abbrev F : Repaired (buildGraph (drawingIn file)) (drawingIn file .settings) r
+  abbrev F : Repaired mostEdges (buildGraph (drawingIn file)) (drawingIn file .settings) r
   F = fixed-in file r is
 
   abbrev near : (v : ℕ) → v < length (buildGraph (drawingIn file) .nodes) → Reach (buildGraph (drawingIn file) .edges) 0 v
@@ -112,7 +113,7 @@ module _ (file : List ℕ) (read : verdict (readConditions file) ≡ accepted) (
 
   short : 16 * length (line (drawingIn file) r) < 2 ^ 32
   unfolding graphIn
-  short = elim (F .copied .most) [
+  short = elim (F .copied .limit) [
     | inl m ↦ omega (arith, m, line-few d r F near)
     | inr e ↦ omega (arith, line-few d r F near, ap length e, graph-few file (accepted-fits file read))
   ]

@@ -6,7 +6,7 @@ use lib.ListN.{length, drop}
 use lib.Dec.{eqb, ltb}
 use lib.Ieee.{binary64, toBits}
 use Rattle.grid.specs.Grid.{writePlace, writeOnGrid}
-use Rattle.limits.specs.Limits.{mostOdd}
+use Rattle.limits.specs.Limits.{mostOdd, mostEdges, refusedApart, refusedOdd, refusedTables, refusedPath, refusedEdges, refusedOutput}
 use Rattle.drawing_spec.specs.Bytes.{bytes}
 use Rattle.drawing_spec.specs.Drawing.{Point, Drawing}
 use Rattle.drawing_spec.specs.Refusal.{Condition, condition, refused, accepted, verdict}
@@ -50,7 +50,7 @@ oddIn file = let g = graphIn file in length (oddNodes (length (g .nodes)) (g .ed
 
 unfoldable pub repairIn : List ℕ → Repairing
 unfolding graphIn drawingIn fixParity
-repairIn file = fixParity (graphIn file) (drawingIn file .settings)
+repairIn file = fixParity mostEdges refusedEdges (graphIn file) (drawingIn file .settings)
 
 abbrev pub stoppedBy : ℕ → Repairing → Bool
 stoppedBy n (stopped k) = eqb k n
@@ -74,12 +74,12 @@ planConditions file lent =
     let s = drawingIn file .settings in
     let g = graphIn file in
     let r = repairIn file in
-    condition 9 (not (allReached (length (g .nodes)) (g .edges)))
-    ∷ condition 10 (tooManyOdd mostOdd s (oddIn file))
-    ∷ condition 11 (tableShort mostOdd s (oddIn file) (lent .floats) (lent .bytes))
-    ∷ condition 12 (stoppedBy 12 r)
-    ∷ condition 13 (stoppedBy 13 r)
-    ∷ condition 14 (ltb (length (lent .output)) (6 + 16 * length (lineIn file)))
+    condition refusedApart (not (allReached (length (g .nodes)) (g .edges)))
+    ∷ condition refusedOdd (tooManyOdd mostOdd s (oddIn file))
+    ∷ condition refusedTables (tableShort mostOdd s (oddIn file) (lent .floats) (lent .bytes))
+    ∷ condition refusedPath (stoppedBy refusedPath r)
+    ∷ condition refusedEdges (stoppedBy refusedEdges r)
+    ∷ condition refusedOutput (ltb (length (lent .output)) (6 + 16 * length (lineIn file)))
     ∷ []
 
 -- ---- the answer
