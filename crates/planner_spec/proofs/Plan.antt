@@ -8,7 +8,7 @@ use lib.ListN.{length}
 use lib.Dec.{ltb}
 use lib.Ieee.{binary64, toBits}
 use borrow.Author.Tests.{not-false, eqb-false, ltb-false}
-use Rattle.limits.specs.Limits.{mostOdd, refusedApart, refusedOdd, refusedTables, refusedPath, refusedEdges, refusedOutput}
+use Rattle.limits.specs.Limits.{mostOdd, mostEdges, refusedApart, refusedOdd, refusedTables, refusedPath, refusedEdges, refusedOutput}
 use Rattle.drawing_spec.specs.Drawing.{Settings, Drawing}
 use Rattle.drawing_spec.specs.Refusal.{Condition, condition, Verdict, refused, accepted, verdict}
 use Rattle.drawing_spec.proofs.Accepted.{none-holds}
@@ -43,7 +43,7 @@ drawing-graph d lent = refl
 module _ (g : Graph) (s : Settings) where
   pub stops-by : (k : ℕ) → repairOf g s ≡ stopped k → (k ≡ refusedPath) ⊎ (k ≡ refusedEdges)
   unfolding repairOf
-  stops-by k e = stops g s k e
+  stops-by k e = stops mostEdges refusedEdges g s k e
 
   module _ (r : Repair) (is : repairOf g s ≡ repaired r) where
     pub line-repaired : lineFor g s ≡ lineOf s (g .nodes) (r .edges)

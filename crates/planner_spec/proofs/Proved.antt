@@ -5,6 +5,7 @@ use mathlib.Core.List.{List, _∷_, map}
 use Prim.Native.Nat.{ℕ, _+_, _*_, _^_, _<_}
 use native.Mathlib.Omega.{arith}
 use lib.ListN.{length}
+use Rattle.limits.specs.Limits.{mostEdges, refusedEdges}
 use Rattle.drawing_spec.specs.Drawing.{Point, Drawing}
 use Rattle.drawing_spec.specs.Members.{All}
 use Rattle.drawing_spec.proofs.Members.{in-all, all-map}
@@ -41,9 +42,9 @@ module _ (d : Drawing) (limits : InLimits d) (lent : Lent) (answer : Planned) (D
   abbrev r : Repair
   r = D .repair
 
-  F : Repaired (buildGraph d) (d .settings) (D .repair)
+  F : Repaired mostEdges (buildGraph d) (d .settings) (D .repair)
   unfolding repairOf
-  F = fixed (buildGraph d) (d .settings) (built-inside d) (D .repair) (D .repairs)
+  F = fixed mostEdges refusedEdges (buildGraph d) (d .settings) (built-inside d) (D .repair) (D .repairs)
 
   near : (v : ℕ) → v < length (buildGraph d .nodes) → Reach (buildGraph d .edges) 0 v
   near = all-reached (length (buildGraph d .nodes)) (buildGraph d .edges) (D .reached)
@@ -61,7 +62,7 @@ module _ (d : Drawing) (limits : InLimits d) (lent : Lent) (answer : Planned) (D
       orient-all OnGrid (d .settings) (map at way) (all-map at OnGrid way (in-all (λ (v : ℕ). OnGrid (at v)) way (λ v i. built-on d (limits .lines-on) (limits .links-on) v)))
 
   short : 16 * length (line d r) < 2 ^ 32
-  short = elim (F .copied .most) [
+  short = elim (F .copied .limit) [
     | inl m ↦ omega (arith, m, line-few d r F near)
     | inr e ↦ omega (arith, line-few d r F near, ap length e, counted-few d (limits .counts))
   ]

@@ -5,7 +5,7 @@ use mathlib.Core.Bool.{Bool, false, not}
 use lib.ListN.{length, replicate}
 use lib.Dec.{eqb, ltb}
 use lib.Ieee.{Float, binary64, toBits}
-use Rattle.limits.specs.Limits.{mostOdd, refusedApart, refusedOdd, refusedTables, refusedPath, refusedEdges, refusedOutput}
+use Rattle.limits.specs.Limits.{mostOdd, mostEdges, refusedApart, refusedOdd, refusedTables, refusedPath, refusedEdges, refusedOutput}
 use Rattle.drawing_spec.specs.Drawing.{Point, Settings, Drawing}
 use Rattle.drawing_spec.specs.Refusal.{Condition, condition, refused, accepted, verdict}
 use Rattle.drawing_spec.specs.Read.{recordsOf, drawingOf, readConditions}
@@ -32,7 +32,7 @@ oddOf g es = length (oddNodes (length (g .nodes)) es)
 
 unfoldable pub repairOf : Graph → Settings → Repairing
 unfolding fixParity
-repairOf g s = fixParity g s
+repairOf g s = fixParity mostEdges refusedEdges g s
 
 abbrev pub stoppedBy : ℕ → Repairing → Bool
 stoppedBy n (stopped k) = eqb k n
