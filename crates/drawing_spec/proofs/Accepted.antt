@@ -19,7 +19,8 @@ use Rattle.drawing_spec.proofs.Members.{all-imp, all-both}
 use Rattle.drawing_spec.proofs.Same.{both}
 use Rattle.drawing_spec.specs.Refusal.{Condition, condition, accepted, verdict}
 use Rattle.drawing_spec.specs.Read.{words, placeAt, onGrid, points, point, lineOf, linkOf, bodies, drawingOf, every, kindsFit, lengthsFit, settingsFit, countsFit, coordinatesFit, linksFit, recordsOf, isCut, readConditions}
-use Rattle.drawing_spec.specs.Accepted.{Counts}
+use Rattle.drawing_spec.specs.Accepted.{Counts, InLimits}
+use Rattle.drawing_spec.proofs.OnGrid.{lines-on, links-on}
 
 -- where the verdict is that a file is accepted, none of its conditions holds
 abbrev pub Fails : Condition → Type 0
@@ -64,6 +65,13 @@ counts-fit d e =
     let a = both _ _ e in
     let b = both _ _ (a .0) in
     record { lines = leb-true (length (d .lines)) mostLines (b .0); points = leb-true _ mostPoints (b .1); links = leb-true (length (d .links)) mostLinks (a .1) }
+
+pub in-limits : (file : List ℕ) → Fits file → InLimits (drawingOf (recordsOf file))
+in-limits file f = record {
+  counts = counts-fit (drawingOf (recordsOf file)) (f .counts);
+  lines-on = lines-on (recordsOf file);
+  links-on = links-on (recordsOf file);
+}
 
 -- ---- check 7
 

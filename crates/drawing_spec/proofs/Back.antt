@@ -16,7 +16,7 @@ number-bytes (suc n) v rest h =
     let high : v / 256 < 256 ^ n = div-lt-iff-lt-mul (lit< tt) .1 (rw pow-suc at h) in
     omega (arith, number-bytes n (v / 256) rest high)
 
-bytes-length : (n v : ℕ) → length (bytes n v) ≡ n
+pub bytes-length : (n v : ℕ) → length (bytes n v) ≡ n
 unfolding bytes
 bytes-length zero v = refl
 bytes-length (suc n) v = ap suc (bytes-length n (v / 256))

@@ -8,6 +8,7 @@ use Rattle.grid.specs.Grid.{readPlace, readOnGrid}
 use Rattle.grid.specs.declared.Place.{Place}
 use Rattle.grid.specs.declared.Place.the-variants.{On, Off}
 use Rattle.limits.specs.Limits.{mostBytes, mostSide, mostPairing, mostFlags, mostLines, mostPoints, mostLinks}
+use Rattle.limits.specs.Limits.{refusedBytes, refusedCut, refusedKinds, refusedLengths, refusedSettings, refusedCounts, refusedCoordinates, refusedLinks}
 use Rattle.drawing_spec.specs.Bytes.{number}
 use Rattle.drawing_spec.specs.Refusal.{Condition, condition}
 use Rattle.drawing_spec.specs.Drawing.{Point, Settings, End, Link, Drawing}
@@ -170,12 +171,12 @@ unfolding recordsOf isCut kindsFit lengthsFit drawingOf settingsFit countsFit co
 readConditions file =
     let rs = recordsOf file in
     let d = drawingOf rs in
-    condition 1 (ltb mostBytes (length file))
-    ∷ condition 2 (isCut file)
-    ∷ condition 3 (not (kindsFit rs))
-    ∷ condition 4 (not (lengthsFit rs))
-    ∷ condition 5 (not (settingsFit (d .settings)))
-    ∷ condition 6 (not (countsFit d))
-    ∷ condition 7 (not (coordinatesFit rs))
-    ∷ condition 8 (not (linksFit d))
+    condition refusedBytes (ltb mostBytes (length file))
+    ∷ condition refusedCut (isCut file)
+    ∷ condition refusedKinds (not (kindsFit rs))
+    ∷ condition refusedLengths (not (lengthsFit rs))
+    ∷ condition refusedSettings (not (settingsFit (d .settings)))
+    ∷ condition refusedCounts (not (countsFit d))
+    ∷ condition refusedCoordinates (not (coordinatesFit rs))
+    ∷ condition refusedLinks (not (linksFit d))
     ∷ []

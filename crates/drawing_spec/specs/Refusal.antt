@@ -6,6 +6,9 @@ use mathlib.Core.Bool.{Bool, true, false}
 pub data Condition : Type 0 where
   condition : ℕ → Bool → Condition
 
+abbrev pub numberOf : Condition → ℕ
+numberOf (condition n holds) = n
+
 pub data Verdict : Type 0 where
   refused : ℕ → Verdict
   accepted : Verdict

@@ -4,6 +4,7 @@ pub mod Built
 pub mod Chain
 pub mod Connected
 pub mod EdgesAt
+pub mod Examples
 pub mod Few
 pub mod Graph
 pub mod Handshake

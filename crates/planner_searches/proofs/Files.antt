@@ -5,6 +5,7 @@ use mathlib.Core.List.{List}
 use mathlib.Core.Bool.{true, false}
 use Prim.Native.Nat.{ℕ}
 use lib.ListN.{length}
+use Rattle.limits.specs.Limits.{mostEdges, refusedPath, refusedEdges}
 use Rattle.drawing_spec.specs.Read.{recordsOf}
 use Rattle.drawing_spec.proofs.OnGrid.{lines-on, links-on}
 use Rattle.drawing_spec.proofs.Accepted.{Fits, counts-fit}
@@ -28,14 +29,14 @@ module _ (file : List ℕ) (fits : Fits file) where
 
   -- where every node is reached, repair stops with 13 or not at all
   module _ (reached : allReached (length (graphIn file .nodes)) (graphIn file .edges) ≡ true) where
-    pub repair-in-sound : Sound (length (graphIn file .nodes)) (repairIn file)
+    pub repair-in-sound : Sound refusedEdges (length (graphIn file .nodes)) (repairIn file)
     unfolding repairIn
     repair-in-sound =
-        repair-sound (graphIn file) (drawingIn file .settings) graph-searchable (reached-one-piece (length (graphIn file .nodes)) (graphIn file .edges) reached)
+        repair-sound mostEdges refusedEdges (graphIn file) (drawingIn file .settings) graph-searchable (reached-one-piece (length (graphIn file .nodes)) (graphIn file .edges) reached)
 
-    pub never-stops-12 : stoppedBy 12 (repairIn file) ≡ false
+    pub never-stops-12 : stoppedBy refusedPath (repairIn file) ≡ false
     never-stops-12 = go (repairIn file) repair-in-sound
       where
-        go : (x : Repairing) → Sound (length (graphIn file .nodes)) x → stoppedBy 12 x ≡ false
+        go : (x : Repairing) → Sound refusedEdges (length (graphIn file .nodes)) x → stoppedBy refusedPath x ≡ false
         go (stopped k) h = rw h
         go (repaired r) h = refl

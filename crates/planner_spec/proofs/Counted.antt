@@ -10,6 +10,7 @@ use native.Mathlib.Omega.{arith}
 use lib.ListN.{length, length-map}
 use lib.Dec.{eqb}
 use borrow.Author.Tests.{eqb-true, eq-eqb}
+use Rattle.limits.specs.Limits.{mostEdges}
 use Rattle.drawing_spec.specs.Drawing.{Point, Settings, closing, same, Drawing}
 use Rattle.drawing_spec.specs.Members.{All}
 use Rattle.drawing_spec.proofs.Members.{all-imp, all-map}
@@ -104,7 +105,7 @@ copiesTouching d r p = sumOver (λ (way : List Point). lineSum (touches p) way) 
 
 -- ---- a drawing d whose graph is connected, and its repair r
 
-module _ (d : Drawing) (r : Repair) (F : Repaired (buildGraph d) (d .settings) r)
+module _ (d : Drawing) (r : Repair) (F : Repaired mostEdges (buildGraph d) (d .settings) r)
     (reached : (v : ℕ) → v < length (buildGraph d .nodes) → Reach (buildGraph d .edges) 0 v)
   where
     abbrev nodes : List Point

@@ -1,36 +1,35 @@
 -- Nothing but the bits of the file decides an accepted answer. What is lent has a say only in whether it is accepted, and in the bytes behind the record, which are kept.
-use mathlib.Core.Path.{_≡_, refl}
-use mathlib.Core.List.{List, _++_}
+use mathlib.Core.Path.{_≡_, sym, ap, _∙_}
+use mathlib.Core.List.{List}
 use Prim.Native.Nat.{ℕ}
-use lib.ListN.{length, drop}
-use Rattle.planner_spec.specs.Plan.{Lent, Planned, planned, lineRecord, lineIn, answerIn, plan}
-use Rattle.planner_spec.proofs.Proved.{accepts}
+use Rattle.drawing_spec.specs.Drawing.{Drawing}
+use Rattle.graph_spec.specs.Graph.{buildGraph}
+use Rattle.planner_spec.specs.LineRecord.{lineRecord, inFront}
+use Rattle.planner_spec.specs.Plan.{Lent, Planned, planned, Outcome, drawingIn, lineFor, planDrawing, plan}
+use Rattle.planner_spec.proofs.Plan.{drawing-graph, drawn, file-planned}
 
--- the answers a and b, for what is lent as l and as k
-pub record SameAnswer (l k : Lent) (a b : Planned) : Type 0 where
-  pub retrace : a .retrace ≡ b .retrace
-  pub before : a .before ≡ b .before
-  pub after : a .after ≡ b .after
-  pub points : a .points ≡ b .points
+-- the answers a and b, and the outputs x and y, for what is lent as l and as k
+pub record SameAnswer (l k : Lent) (a b : Planned) (x y : List ℕ) : Type 0 where
+  pub answers : a ≡ b
   -- one record at the front of both outputs, and the bytes behind it as they were lent
   pub front : List ℕ
-  pub output-a : a .output ≡ front ++ drop (length front) (l .output)
-  pub output-b : b .output ≡ front ++ drop (length front) (k .output)
+  pub output-x : x ≡ inFront front (l .output)
+  pub output-y : y ≡ inFront front (k .output)
 
-in-file : (file : List ℕ) (l k : Lent) → SameAnswer l k (answerIn file l) (answerIn file k)
-unfolding answerIn
-in-file file l k = record {
-  retrace = refl;
-  before = refl;
-  after = refl;
-  points = refl;
-  front = lineRecord (lineIn file);
-  output-a = refl;
-  output-b = refl;
-}
+pub drawing-decides : (d : Drawing) (l k : Lent) (a b : Planned) → planDrawing d l .answer ≡ planned a → planDrawing d k .answer ≡ planned b → SameAnswer l k a b (planDrawing d l .output) (planDrawing d k .output)
+unfolding planDrawing
+drawing-decides d l k a b e f =
+    let x = drawn (buildGraph d) (d .settings) l a e in
+    let y = drawn (buildGraph d) (d .settings) k b f in
+    record {
+      answers = sym (x .answers) ∙ y .answers;
+      front = lineRecord (lineFor (buildGraph d) (d .settings));
+      output-x = ap (λ (o : Outcome). o .output) (x .is);
+      output-y = ap (λ (o : Outcome). o .output) (y .is);
+    }
 
-pub file-decides : (file : List ℕ) (l k : Lent) (a b : Planned) → plan file l ≡ planned a → plan file k ≡ planned b → SameAnswer l k a b
+pub file-decides : (file : List ℕ) (l k : Lent) (a b : Planned) → plan file l .answer ≡ planned a → plan file k .answer ≡ planned b → SameAnswer l k a b (plan file l .output) (plan file k .output)
 file-decides file l k a b e f =
-    let x = accepts file l a e .answers in
-    let y = accepts file k b f .answers in
-    rw (← x, ← y) (in-file file l k)
+    let x = file-planned file l a e .1 in
+    let y = file-planned file k b f .1 in
+    rw (x, y) (drawing-decides (drawingIn file) l k a b (rw x at e) (rw y at f))

@@ -1,7 +1,8 @@
--- Laws of the definitions in specs/.
+-- Laws of the definitions in specs/; Proved has demand 3, and FileDecides that nothing but the file decides.
 pub mod Counted
 pub mod Drawn
 pub mod FileDecides
 pub mod LineEnds
+pub mod LineRecord
+pub mod Plan
 pub mod Proved
-pub mod Written

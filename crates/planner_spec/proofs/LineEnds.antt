@@ -9,6 +9,7 @@ use native.Mathlib.Decide.{decLe}
 use native.Mathlib.Omega.{arith}
 use lib.ListN.{length}
 use borrow.Author.Tests.{eqb-true, eq-eqb, ne-eqb}
+use Rattle.limits.specs.Limits.{mostEdges}
 use Rattle.drawing_spec.specs.Drawing.{Point, closing, Drawing}
 use Rattle.drawing_spec.specs.Members.{All}
 use Rattle.graph_spec.specs.Chain.{strokesOf}
@@ -42,7 +43,7 @@ unfolding lastFrom
 last-of P v [] a = a .0
 last-of P v (w ∷ vs) a = last-of P w vs (a .1)
 
-module _ (d : Drawing) (r : Repair) (F : Repaired (buildGraph d) (d .settings) r)
+module _ (d : Drawing) (r : Repair) (F : Repaired mostEdges (buildGraph d) (d .settings) r)
     (reached : (v : ℕ) → v < length (buildGraph d .nodes) → Reach (buildGraph d .edges) 0 v)
   where
     abbrev nodes : List Point

@@ -1,146 +1,101 @@
--- Demand 3 holds of every file that is accepted.
+-- Demand 3 holds of every drawing and of every file that is accepted.
 use mathlib.Core.Path.{_≡_, refl, sym, ap, ap₂, _∙_, subst}
-use mathlib.Core.Logic.{_⊎_, inl, inr}
+use mathlib.Core.Logic.{inl, inr}
 use mathlib.Core.List.{List, _∷_, map}
-use mathlib.Core.Bool.{true, false, true≢false}
 use Prim.Native.Nat.{ℕ, _+_, _*_, _^_, _<_}
 use native.Mathlib.Omega.{arith}
 use lib.ListN.{length}
-use borrow.Author.Tests.{not-false, eqb-false}
+use Rattle.limits.specs.Limits.{mostEdges, refusedEdges}
 use Rattle.drawing_spec.specs.Drawing.{Point, Drawing}
-use Rattle.drawing_spec.specs.Refusal.{Verdict, refused, accepted, verdict}
 use Rattle.drawing_spec.specs.Members.{All}
 use Rattle.drawing_spec.proofs.Members.{in-all, all-map}
 use Rattle.drawing_spec.specs.OnGrid.{OnGrid}
-use Rattle.drawing_spec.proofs.Accepted.{accepted-fits, none-holds}
+use Rattle.drawing_spec.specs.Accepted.{InLimits}
+use Rattle.drawing_spec.specs.Refusal.{accepted, verdict}
 use Rattle.drawing_spec.specs.Read.{readConditions}
+use Rattle.drawing_spec.proofs.Accepted.{accepted-fits, in-limits}
 use Rattle.graph_spec.specs.Chain.{strokesOf}
 use Rattle.graph_spec.specs.Graph.{pointAt, buildGraph}
 use Rattle.graph_spec.specs.Degree.{isOdd}
 use Rattle.graph_spec.specs.Count.{sumOver, lineSum, touches, stepsBetween, strokesAt}
-use Rattle.graph_spec.specs.Reach.{allReached}
 use Rattle.graph_spec.specs.Ways.{Reach}
 use Rattle.graph_spec.proofs.Reached.{all-reached}
-use Rattle.graph_spec.proofs.Built.{built-inside}
-use Rattle.repair_spec.specs.Repair.{Repair, Repairing, stopped, repaired}
+use Rattle.graph_spec.proofs.Built.{built-inside, built-on}
+use Rattle.graph_spec.proofs.Few.{counted-few}
+use Rattle.repair_spec.specs.Repair.{Repair, repaired}
 use Rattle.repair_spec.proofs.Repaired.{Repaired, fixed}
-use Rattle.repair_spec.proofs.Stops.{stops}
 use Rattle.walk_spec.specs.Line.{lineOf}
 use Rattle.walk_spec.proofs.Oriented.{orient-all}
-use Rattle.planner_spec.specs.Plan.{Lent, Planned, refusal, planned, drawingIn, graphIn, repairIn, stoppedBy, lineIn, planConditions, answerIn, plan}
-use Rattle.planner_spec.specs.Words.{lineWritten, retracesIn, copiesBetween, copiesAt, odd, leftOdd}
-use Rattle.planner_spec.proofs.Written.{line-back}
-use Rattle.planner_spec.proofs.Drawn.{drawn-between, drawn-at, graph-on, graph-few}
+use Rattle.planner_spec.specs.LineRecord.{inFront, lineRecord, Written}
+use Rattle.planner_spec.specs.Plan.{Lent, Planned, planned, Outcome, drawingIn, repairOf, lineFor, accept, planGraph, planDrawing, plan}
+use Rattle.planner_spec.specs.Words.{retracesIn, copiesBetween, copiesAt, odd, leftOdd}
+use Rattle.planner_spec.proofs.LineRecord.{line-back, record-length}
+use Rattle.planner_spec.proofs.Plan.{line-repaired, drawing-graph, Drawn, drawn, file-planned}
+use Rattle.planner_spec.proofs.Drawn.{drawn-between, drawn-at}
 use Rattle.planner_spec.proofs.Counted.{nodeLine, line, ways, copies, copiesTouching, steps-counted, copies-drawn, steps-apart, line-few}
 use Rattle.planner_spec.proofs.LineEnds.{ends-meet, ends-odd}
-use Rattle.planner_spec.specs.Demand3.{Ends, Demand3, Statement}
+use Rattle.planner_spec.specs.Demand3.{Ends, Demand3, Statement, OfDrawings}
 
--- ---- what an accepted file is
+-- ---- demand 3 for a drawing d, which is planned
 
-pub record Accepted (file : List ℕ) (lent : Lent) (answer : Planned) : Type 0 where
-  pub read : verdict (readConditions file) ≡ accepted
-  pub plans : verdict (planConditions file lent) ≡ accepted
-  pub answers : answerIn file lent ≡ answer
+module _ (d : Drawing) (limits : InLimits d) (lent : Lent) (answer : Planned) (D : Drawn (buildGraph d) (d .settings) lent answer) where
+  abbrev r : Repair
+  r = D .repair
 
-pub accepts : (file : List ℕ) (lent : Lent) (answer : Planned) → plan file lent ≡ planned answer → Accepted file lent answer
-unfolding plan
-accepts file lent answer e = go (verdict (readConditions file)) (verdict (planConditions file lent)) refl refl e
-  where
-    go : (v w : Verdict) → verdict (readConditions file) ≡ v → verdict (planConditions file lent) ≡ w
-        → elim v [ refused n ↦ refusal n | accepted ↦ elim w [ refused n ↦ refusal n | accepted ↦ planned (answerIn file lent) ] ] ≡ planned answer
-        → Accepted file lent answer
-    go (refused n) w x y e = absurd (true≢false (cc))
-    go accepted (refused n) x y e = absurd (true≢false (cc))
-    go accepted accepted x y e = record { read = x; plans = y; answers = (cc) }
+  F : Repaired mostEdges (buildGraph d) (d .settings) (D .repair)
+  unfolding repairOf
+  F = fixed mostEdges refusedEdges (buildGraph d) (d .settings) (built-inside d) (D .repair) (D .repairs)
 
--- every node is reached, and repair was not stopped
-record Passes (file : List ℕ) : Type 0 where
-  connected : allReached (length (graphIn file .nodes)) (graphIn file .edges) ≡ true
-  not12 : stoppedBy 12 (repairIn file) ≡ false
-  not13 : stoppedBy 13 (repairIn file) ≡ false
+  near : (v : ℕ) → v < length (buildGraph d .nodes) → Reach (buildGraph d .edges) 0 v
+  near = all-reached (length (buildGraph d .nodes)) (buildGraph d .edges) (D .reached)
 
-passes : (file : List ℕ) (lent : Lent) → verdict (planConditions file lent) ≡ accepted → Passes file
-unfolding planConditions
-passes file lent e =
-    let c = none-holds (planConditions file lent) e in
-    record { connected = not-false (allReached (length (graphIn file .nodes)) (graphIn file .edges)) (c .0); not12 = c .1 .1 .1 .0; not13 = c .1 .1 .1 .1 .0 }
+  line-is : lineFor (buildGraph d) (d .settings) ≡ line d r
+  unfolding lineOf
+  line-is = line-repaired (buildGraph d) (d .settings) r (D .repairs)
 
--- so there is a repair
-stops-in : (file : List ℕ) (k : ℕ) → repairIn file ≡ stopped k → (k ≡ 12) ⊎ (k ≡ 13)
-unfolding repairIn
-stops-in file k e = stops (graphIn file) (drawingIn file .settings) k e
+  -- ---- every point of the line is on the grid, and there are few of them, so the record is read back as the line
 
-repair-of : (file : List ℕ) → Passes file → (r : Repair) × (repairIn file ≡ repaired r)
-repair-of file p = go (repairIn file) refl (p .not12) (p .not13)
-  where
-    go : (x : Repairing) → repairIn file ≡ x → stoppedBy 12 x ≡ false → stoppedBy 13 x ≡ false → (r : Repair) × (repairIn file ≡ repaired r)
-    go (repaired r) e a b = (r, e)
-    go (stopped k) e a b = elim (stops-in file k e) [ inl q ↦ absurd (eqb-false k 12 a q) | inr q ↦ absurd (eqb-false k 13 b q) ]
-
-fixed-in : (file : List ℕ) (r : Repair) → repairIn file ≡ repaired r → Repaired (buildGraph (drawingIn file)) (drawingIn file .settings) r
-unfolding repairIn graphIn
-fixed-in file r e = fixed (graphIn file) (drawingIn file .settings) (built-inside (drawingIn file)) r e
-
-reached-in : (file : List ℕ) → Passes file → (v : ℕ) → v < length (buildGraph (drawingIn file) .nodes) → Reach (buildGraph (drawingIn file) .edges) 0 v
-unfolding graphIn
-reached-in file p = all-reached (length (graphIn file .nodes)) (graphIn file .edges) (p .connected)
-
--- ---- every point of the line is on the grid, and there are few of them, so the record is read back as the line
-
--- ---- demand 3 for a file, its repair r, and an output that begins with its line
-
-module _ (file : List ℕ) (read : verdict (readConditions file) ≡ accepted) (passed : Passes file) (r : Repair) (is : repairIn file ≡ repaired r) where
-  abbrev d : Drawing
-  d = drawingIn file
-
-  abbrev F : Repaired (buildGraph (drawingIn file)) (drawingIn file .settings) r
-  F = fixed-in file r is
-
-  abbrev near : (v : ℕ) → v < length (buildGraph (drawingIn file) .nodes) → Reach (buildGraph (drawingIn file) .edges) 0 v
-  near = reached-in file passed
-
-  line-is : lineIn file ≡ line (drawingIn file) r
-  unfolding lineIn graphIn lineOf
-  line-is = rw is
-
-  on-grid : All OnGrid (line (drawingIn file) r)
-  unfolding graphIn
+  on-grid : All OnGrid (line d r)
   on-grid =
-      let at = pointAt (graphIn file .nodes) in
-      let way = nodeLine (drawingIn file) r in
-      orient-all OnGrid (drawingIn file .settings) (map at way) (all-map at OnGrid way (in-all (λ (v : ℕ). OnGrid (at v)) way (λ v i. graph-on file v)))
+      let at = pointAt (buildGraph d .nodes) in
+      let way = nodeLine d r in
+      orient-all OnGrid (d .settings) (map at way) (all-map at OnGrid way (in-all (λ (v : ℕ). OnGrid (at v)) way (λ v i. built-on d (limits .lines-on) (limits .links-on) v)))
 
-  short : 16 * length (line (drawingIn file) r) < 2 ^ 32
-  unfolding graphIn
-  short = elim (F .copied .most) [
+  short : 16 * length (line d r) < 2 ^ 32
+  short = elim (F .copied .limit) [
     | inl m ↦ omega (arith, m, line-few d r F near)
-    | inr e ↦ omega (arith, line-few d r F near, ap length e, graph-few file (accepted-fits file read))
+    | inr e ↦ omega (arith, line-few d r F near, ap length e, counted-few d (limits .counts))
   ]
 
-  written : (lent : Lent) → lineWritten (answerIn file lent .output) ≡ line (drawingIn file) r
-  unfolding answerIn
-  written lent = rw line-is (line-back (line (drawingIn file) r) _ on-grid short)
+  written : Written (line d r) (lent .output) (inFront (lineRecord (line d r)) (lent .output))
+  written = record {
+    on-grid = on-grid;
+    room = omega (arith, record-length (line d r), D .room, ap length line-is);
+    is = refl;
+    back = line-back (line d r) _ on-grid short;
+  }
 
-  ways-are : retracesIn file ≡ ways (drawingIn file) r
-  unfolding retracesIn graphIn
-  ways-are = rw is
+  -- ---- copies in the words of document 01
 
-  -- copies in the words of document 01
-  copied-between : (p q : Point) → copies (drawingIn file) r p q ≡ copiesBetween p q file
+  ways-are : retracesIn d ≡ ways d r
+  unfolding retracesIn
+  ways-are = rw (D .repairs)
+
+  copied-between : (p q : Point) → copies d r p q ≡ copiesBetween p q d
   unfolding copiesBetween
   copied-between p q = ap (sumOver (λ (way : List Point). stepsBetween p q way)) (sym ways-are)
 
-  copied-at : (p : Point) → copiesTouching (drawingIn file) r p ≡ copiesAt p file
+  copied-at : (p : Point) → copiesTouching d r p ≡ copiesAt p d
   unfolding copiesAt
   copied-at p = ap (sumOver (λ (way : List Point). lineSum (touches p) way)) (sym ways-are)
 
-  odd-is : (p : Point) → isOdd (strokesAt p (strokesOf (drawingIn file))) ≡ odd p file
-  odd-is p = ap isOdd (drawn-at file p)
+  odd-is : (p : Point) → isOdd (strokesAt p (strokesOf d)) ≡ odd p d
+  odd-is p = ap isOdd (drawn-at d p)
 
-  left-odd-is : (p : Point) → isOdd (strokesAt p (strokesOf (drawingIn file)) + copiesTouching (drawingIn file) r p) ≡ leftOdd p file
-  left-odd-is p = ap₂ (λ (m n : ℕ). isOdd (m + n)) (drawn-at file p) (copied-at p)
+  left-odd-is : (p : Point) → isOdd (strokesAt p (strokesOf d) + copiesTouching d r p) ≡ leftOdd p d
+  left-odd-is p = ap₂ (λ (m n : ℕ). isOdd (m + n)) (drawn-at d p) (copied-at p)
 
-  ends : (first : Point) (rest : List Point) → line (drawingIn file) r ≡ first ∷ rest → Ends file first rest
+  ends : (first : Point) (rest : List Point) → line d r ≡ first ∷ rest → Ends d first rest
   ends first rest e =
       let meet = ends-meet d r F near first rest e in
       record {
@@ -152,18 +107,35 @@ module _ (file : List ℕ) (read : verdict (readConditions file) ≡ accepted) (
             (let at = ends-odd d r F near first rest e apart p in (λ h. at .0 (left-odd-is p ∙ h), λ h. sym (left-odd-is p) ∙ at .1 h));
       }
 
-  holds : (lent : Lent) → Demand3 file (answerIn file lent .output)
-  holds lent = record {
-    steps = λ p q. rw (written lent) (omega (arith, steps-counted d r F near p q, drawn-between file p q, copied-between p q));
-    on-drawn = λ p q h. omega (arith, copies-drawn d r F near p q (omega (arith, copied-between p q)), drawn-between file p q);
-    apart = λ p. rw (written lent) (steps-apart d r F near p);
-    ends = λ first rest e. ends first rest (sym (written lent) ∙ e);
+  holds : Demand3 d (lent .output) (inFront (lineRecord (line d r)) (lent .output))
+  holds = record {
+    line = line d r;
+    written = written;
+    steps = λ p q. omega (arith, steps-counted d r F near p q, drawn-between d p q, copied-between p q);
+    on-drawn = λ p q h. omega (arith, copies-drawn d r F near p q (omega (arith, copied-between p q)), drawn-between d p q);
+    apart = λ p. steps-apart d r F near p;
+    ends = ends;
   }
 
--- Demand 3, whole: whatever file is accepted, whatever is lent.
+  output-is : planDrawing d lent .output ≡ inFront (lineRecord (line d r)) (lent .output)
+  output-is = ap (λ (o : Outcome). o .output) (drawing-graph d lent ∙ D .is) ∙ ap (λ (l : List Point). inFront (lineRecord l) (lent .output)) line-is
+
+  pub planned-demand3 : Demand3 d (lent .output) (planDrawing d lent .output)
+  planned-demand3 = subst (Demand3 d (lent .output)) (sym output-is) holds
+
+-- Demand 3 of every drawing in limits that is accepted, whatever is lent,
+pub drawing-demand3 : OfDrawings
+unfolding planDrawing
+drawing-demand3 d limits lent answer h = planned-demand3 d limits lent answer (drawn (buildGraph d) (d .settings) lent answer h)
+
+-- and of every file that is.
+file-limits : (file : List ℕ) → verdict (readConditions file) ≡ accepted → InLimits (drawingIn file)
+unfolding drawingIn
+file-limits file h = in-limits file (accepted-fits file h)
+
 pub demand3 : Statement
-demand3 file lent answer e =
-    let a = accepts file lent answer e in
-    let p = passes file lent (a .plans) in
-    let r = repair-of file p in
-    subst (λ (x : Planned). Demand3 file (x .output)) (a .answers) (holds file (a .read) p (r .0) (r .1) lent)
+demand3 file lent answer h =
+    let p = file-planned file lent answer h in
+    let limits : InLimits (drawingIn file) = file-limits file (p .0) in
+    let of-drawing = drawing-demand3 (drawingIn file) limits lent answer (ap (λ (o : Outcome). o .answer) (sym (p .1)) ∙ h) in
+    subst (λ (o : Outcome). Demand3 (drawingIn file) (lent .output) (o .output)) (sym (p .1)) of-drawing

@@ -1,10 +1,11 @@
--- The answer to a drawing file, and demand 3.
--- Definitions; demand 3 is stated in Demand3, in the words of Words:
+-- The answer to a drawing, and demand 3.
+-- the kind 4 record that a line is written as:
+pub mod LineRecord
+-- conditions 9 to 14, the answer, and what a call leaves:
 pub mod Plan
+-- piece, link, copy and odd in the words of demand 3:
 pub mod Words
+-- the statement of demand 3:
 pub mod Demand3
--- The starred drawings:
+-- the starred drawings:
 pub mod Samples
-
--- The proof of demand 3, whose end is Proved:
--- Nothing but the file decides an accepted answer:

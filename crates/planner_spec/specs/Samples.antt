@@ -6,7 +6,8 @@ use lib.ListN.{length, replicate}
 use Rattle.grid.specs.Grid.{origin, gridExponent}
 use Rattle.drawing_spec.specs.Bytes.{bytes}
 use Rattle.drawing_spec.specs.Drawing.{Point}
-use Rattle.planner_spec.specs.Plan.{Answer, refusal, planned, pointBytes, lineRecord, plan}
+use Rattle.planner_spec.specs.LineRecord.{pointBytes, lineRecord}
+use Rattle.planner_spec.specs.Plan.{refusal, planned, Outcome, plan}
 
 -- ---- files. Coordinates are in pixels; the canvas is 10 by 10.
 
@@ -48,7 +49,7 @@ record Case : Type 0 where
   file : List ℕ
   floats : ℕ
   output : List ℕ
-  want : Answer
+  want : Outcome
 
 -- An accepted drawing is lent an output two bytes longer than its record, and those keep their value. The retrace is given by its f64's bits.
 drawn : List ℕ → ℕ → ℕ → ℕ → ℕ → List Point → Case
@@ -57,11 +58,15 @@ drawn file floats retrace before after points = record {
   file = file;
   floats = floats;
   output = replicate (6 + 16 * length points + 2) 7;
-  want = planned (record { retrace = retrace; before = before; after = after; points = length points; output = lineRecord points ++ 7 ∷ 7 ∷ [] });
+  want = record {
+    answer = planned (record { retrace = retrace; before = before; after = after; points = length points });
+    output = lineRecord points ++ 7 ∷ 7 ∷ [];
+  };
 }
 
+-- a refused one keeps all of the output's bytes
 notDrawn : List ℕ → ℕ → ℕ → Case
-notDrawn file floats number = record { file = file; floats = floats; output = replicate 200 7; want = refusal number }
+notDrawn file floats number = record { file = file; floats = floats; output = replicate 200 7; want = record { answer = refusal number; output = replicate 200 7 } }
 
 -- 0.0, 4.0, 5.0, 8.0 and 16.0
 table : List Case
@@ -84,7 +89,7 @@ table =
     ∷ []
 
 -- Optimal's table of 2 ^ 4 bytes is lent; 2 ^ 4 + 4² entries of f64 are just enough
-given : Case → Answer
+given : Case → Outcome
 unfolding plan
 given c = plan (c .file) (record { floats = c .floats; bytes = 16; output = c .output })
 
@@ -109,10 +114,10 @@ exampleRecord =
     ∷ 0 ∷ 0 ∷ 0 ∷ 0 ∷ 0 ∷ 0 ∷ 8 ∷ 64 ∷ 0 ∷ 0 ∷ 0 ∷ 0 ∷ 0 ∷ 0 ∷ 16 ∷ 64 ∷ []
 
 example : plan exampleFile (record { floats = 0; bytes = 0; output = replicate 38 7 })
-    ≡ planned (record { retrace = 0; before = 2; after = 2; points = 2; output = exampleRecord })
+    ≡ record { answer = planned (record { retrace = 0; before = 2; after = 2; points = 2 }); output = exampleRecord }
 unfolding plan exampleFile exampleRecord
 example = refl
 
-example-short : plan exampleFile (record { floats = 0; bytes = 0; output = replicate 37 7 }) ≡ refusal 14
+example-short : plan exampleFile (record { floats = 0; bytes = 0; output = replicate 37 7 }) ≡ record { answer = refusal 14; output = replicate 37 7 }
 unfolding plan exampleFile
 example-short = refl

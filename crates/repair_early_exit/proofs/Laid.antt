@@ -1,14 +1,14 @@
 -- What a retrace leaves can be searched like what it found, so distances are least in every search that `applyMatching` makes; and how many edges there are after it is known
 -- before a copy is laid.
 use mathlib.Core.Path.{_≡_, refl, ap}
-use mathlib.Core.List.{List, [], _∷_, _++_}
+use mathlib.Core.List.{List, [], _∷_}
 use mathlib.Core.Bool.{Bool, true, false, true≢false}
 use Prim.Native.Nat.{ℕ, zero, suc, _+_, _-_, _≤_, _<_}
 use native.Mathlib.Omega.{arith}
 use lib.Dec.{eqb, leb}
 use lib.ListN.{length, length-append}
 use lib.Ieee.{Float}
-use Rattle.limits.specs.Limits.{mostEdges}
+use Rattle.limits.specs.Limits.{refusedPath}
 use Rattle.drawing_spec.specs.Members.{All}
 use Rattle.graph_spec.specs.Graph.{Edge, edgesAt}
 use Rattle.graph_spec.specs.Ways.{Walks}
@@ -17,6 +17,7 @@ use Rattle.repair_spec.specs.Retrace.{Path, Step, to, none, found, error, stepB
 use Rattle.repair_spec.proofs.Least.{least-distance}
 use Rattle.repair_spec.specs.Cost.{Least}
 use Rattle.repair_spec.proofs.Along.{shortest-along}
+use Rattle.repair_spec.proofs.Applied.{retraced}
 use Rattle.repair_spec.proofs.Copies.{copy, laid, lay-copied, lay-inside, lay-weights}
 use Rattle.repair_spec.specs.Pairing.{Pair}
 use Rattle.repair_spec.specs.Repair.{Repair, Repairing, stopped, applyMatching}
@@ -39,12 +40,6 @@ retrace-searchable n l s t path is G =
     rw (a .1) (lay-searchable n s (a .0) l t (a .2) G)
 
 -- ---- every search of `applyMatching`
-
--- what one retrace more makes of r
-abbrev pub retraced : List ℕ → Repair → Repair
-retraced path r =
-    let l = layPath path (record { edges = r .edges; sum = r .sum }) in
-    record { edges = l .edges; retraces = r .retraces ++ (path ∷ []); sum = l .sum }
 
 -- the pairs ps are applied to r, and for the pair p among them the edges es are searched
 pub data Searched (n : ℕ) : List Pair → Repair → List Edge → Pair → Type 0 where
@@ -81,21 +76,21 @@ path-count [] l = omega arith
 path-count (u ∷ vs) l = omega (arith, lay-count u vs l)
 
 -- so whether a retrace takes the graph past the limit is known before it is laid
-abbrev pub counted : ℕ → List Pair → Repair → Path → Repairing
-counted n ps r error = stopped 12
-counted n ps r (found path) = elim (leb (length (r .edges) + (length path - 1)) mostEdges) [ false ↦ stopped 13 | true ↦ applyMatching n ps (retraced path r) ]
+abbrev pub counted : ℕ → ℕ → ℕ → List Pair → Repair → Path → Repairing
+counted most number n ps r error = stopped refusedPath
+counted most number n ps r (found path) = elim (leb (length (r .edges) + (length path - 1)) most) [ false ↦ stopped number | true ↦ applyMatching most number n ps (retraced path r) ]
 
-pub apply-counted : (n : ℕ) (p : Pair) (ps : List Pair) (r : Repair) → applyMatching n (p ∷ ps) r ≡ counted n ps r (shortestPath n (r .edges) (p .from) (p .to))
+pub apply-counted : (most number n : ℕ) (p : Pair) (ps : List Pair) (r : Repair) → applyMatching most number n (p ∷ ps) r ≡ counted most number n ps r (shortestPath n (r .edges) (p .from) (p .to))
 unfolding applyMatching
-apply-counted n p ps r = go (shortestPath n (r .edges) (p .from) (p .to))
+apply-counted most number n p ps r = go (shortestPath n (r .edges) (p .from) (p .to))
   where
     go : (x : Path) → _≡_ {A = Repairing} (elim x [
-      | error ↦ stopped 12
-      | found path ↦ elim (leb (length (retraced path r .edges)) mostEdges) [ false ↦ stopped 13 | true ↦ applyMatching n ps (retraced path r) ]
-    ]) (counted n ps r x)
+      | error ↦ stopped refusedPath
+      | found path ↦ elim (leb (length (retraced path r .edges)) most) [ false ↦ stopped number | true ↦ applyMatching most number n ps (retraced path r) ]
+    ]) (counted most number n ps r x)
     go error = refl
     go (found path) =
-        ap (λ (m : ℕ). elim (leb m mostEdges) as (λ b. Repairing) [ false ↦ stopped 13 | true ↦ applyMatching n ps (retraced path r) ])
+        ap (λ (m : ℕ). elim (leb m most) as (λ b. Repairing) [ false ↦ stopped number | true ↦ applyMatching most number n ps (retraced path r) ])
         (path-count path (record { edges = r .edges; sum = r .sum }))
 
 -- a path has no more nodes than steps are allowed

@@ -8,7 +8,7 @@ use mathlib.Core.Bool.{Bool, true, false, true≢false}
 use lib.ListN.{length}
 use lib.Dec.{leb}
 use borrow.Author.Tests.{leb-true}
-use Rattle.limits.specs.Limits.{mostEdges}
+use Rattle.limits.specs.Limits.{refusedPath}
 use Rattle.drawing_spec.proofs.Members.{all-append}
 use Rattle.graph_spec.specs.Graph.{Edge}
 use Rattle.graph_spec.specs.Degree.{hit, degree}
@@ -27,8 +27,8 @@ use Rattle.repair_spec.proofs.Pairs.{ends}
 
 -- ---- copies along a list of ways
 
--- The edges fs are es, of n nodes, with a copy along each step of each of `ways`.
-pub record WithCopies (n : ℕ) (es fs : List Edge) (ways : List (List ℕ)) : Type 0 where
+-- The edges fs are es, of n nodes, with a copy along each step of each of `ways`, at most `most` of them.
+pub record WithCopies (most n : ℕ) (es fs : List Edge) (ways : List (List ℕ)) : Type 0 where
   -- copies are counted from the ways
   pub joining-is : (u v : ℕ) → joining u v fs ≡ joining u v es + sumOver (λ (way : List ℕ). lineSum (joint u v) way) ways
   pub degree-is : (v : ℕ) → degree fs v ≡ degree es v + sumOver (λ (way : List ℕ). lineSum (λ (a b : ℕ). hit a v + hit b v) way) ways
@@ -38,18 +38,18 @@ pub record WithCopies (n : ℕ) (es fs : List Edge) (ways : List (List ℕ)) : T
   pub inside : Inside n fs
   pub ways-inside : All (All (λ (v : ℕ). v < n)) ways
   -- the limit of edges holds after each retrace
-  pub most : (length fs ≤ mostEdges) ⊎ (fs ≡ es)
+  pub limit : (length fs ≤ most) ⊎ (fs ≡ es)
 
-pub nothing-copied : (n : ℕ) (es : List Edge) → Inside n es → WithCopies n es es []
+pub nothing-copied : (most n : ℕ) (es : List Edge) → Inside n es → WithCopies most n es es []
 unfolding sumOver
-nothing-copied n es h = record {
+nothing-copied most n es h = record {
   joining-is = λ u v. omega arith;
   degree-is = λ v. omega arith;
   on-drawn = λ u v j. j;
   old = λ u v j. j;
   inside = h;
   ways-inside = tt;
-  most = inr refl;
+  limit = inr refl;
 }
 
 sum-snoc : {A : Type 0} (g : A → ℕ) (xs : List A) (y : A) → sumOver g (xs ++ (y ∷ [])) ≡ sumOver g xs + g y
@@ -63,78 +63,78 @@ walk-inside n es u (v ∷ vs) t h l w =
     let j = w .0 in
     (l, walk-inside n es v vs t h (joins-inside n es h (j .by) u v (j .isIn) (j .joins)) (w .1))
 
-one-more : (n : ℕ) (es : List Edge) (ways : List (List ℕ)) (u : ℕ) (vs : List ℕ) (t : ℕ) (l : Laid) → u < n → Walks (l .edges) u vs t
-    → length (lay u vs l .edges) ≤ mostEdges → WithCopies n es (l .edges) ways → WithCopies n es (lay u vs l .edges) (ways ++ ((u ∷ vs) ∷ []))
-one-more n es ways u vs t l below w fits c = record {
+one-more : (most n : ℕ) (es : List Edge) (ways : List (List ℕ)) (u : ℕ) (vs : List ℕ) (t : ℕ) (l : Laid) → u < n → Walks (l .edges) u vs t
+    → length (lay u vs l .edges) ≤ most → WithCopies most n es (l .edges) ways → WithCopies most n es (lay u vs l .edges) (ways ++ ((u ∷ vs) ∷ []))
+one-more most n es ways u vs t l below w fits c = record {
   joining-is = λ x y. omega (arith, c .joining-is x y, lay-joining u vs l x y, sum-snoc (λ (way : List ℕ). lineSum (joint x y) way) ways (u ∷ vs));
   degree-is = λ v. omega (arith, c .degree-is v, lay-degree u vs l v, sum-snoc (λ (way : List ℕ). lineSum (λ (a b : ℕ). hit a v + hit b v) way) ways (u ∷ vs));
   on-drawn = λ x y j. c .on-drawn x y (lay-drawn u vs l t w x y j);
   old = λ x y j. lay-old u vs l x y (c .old x y j);
   inside = lay-inside u vs l t w n (c .inside);
   ways-inside = all-append (All (λ (v : ℕ). v < n)) ways ((u ∷ vs) ∷ []) (c .ways-inside) (walk-inside n (l .edges) u vs t (c .inside) below w, tt);
-  most = inl fits;
+  limit = inl fits;
 }
 
 -- ---- what applyMatching does
 
 -- r' is r with the retraces of the pairs ps, each of which changes the parity of its two nodes only
-pub record Applied (n : ℕ) (es : List Edge) (ps : List Pair) (r r' : Repair) : Type 0 where
-  pub copied : WithCopies n es (r' .edges) (r' .retraces)
+pub record Applied (most n : ℕ) (es : List Edge) (ps : List Pair) (r r' : Repair) : Type 0 where
+  pub copied : WithCopies most n es (r' .edges) (r' .retraces)
   pub flips : (v : ℕ) → (degree (r' .edges) v + degree (r .edges) v + count v (ends ps)) % 2 ≡ 0
 
--- the retrace `path` more
-abbrev after : List ℕ → Repair → Repair
-after path r =
+-- what one retrace more makes of r
+abbrev pub retraced : List ℕ → Repair → Repair
+retraced path r =
     let l = layPath path (record { edges = r .edges; sum = r .sum }) in
     record { edges = l .edges; retraces = r .retraces ++ (path ∷ []); sum = l .sum }
 
 -- of one pair
-retraced : (n : ℕ) (es : List Edge) (s t : ℕ) (path : List ℕ) (r : Repair) → s < n → shortestPath n (r .edges) s t ≡ found path
-    → length (after path r .edges) ≤ mostEdges → WithCopies n es (r .edges) (r .retraces) → Applied n es (pair s t ∷ []) r (after path r)
+pair-applied : (most n : ℕ) (es : List Edge) (s t : ℕ) (path : List ℕ) (r : Repair) → s < n → shortestPath n (r .edges) s t ≡ found path
+    → length (retraced path r .edges) ≤ most → WithCopies most n es (r .edges) (r .retraces) → Applied most n es (pair s t ∷ []) r (retraced path r)
 unfolding layPath count ends
-retraced n es s t path r below is fits c =
+pair-applied most n es s t path r below is fits c =
     let along = shortest-along n (r .edges) s t path is in
-    subst (λ (p : List ℕ). length (after p r .edges) ≤ mostEdges → Applied n es (pair s t ∷ []) r (after p r)) (sym (along .1)) (walked (along .0) (along .2)) fits
+    subst (λ (p : List ℕ). length (retraced p r .edges) ≤ most → Applied most n es (pair s t ∷ []) r (retraced p r)) (sym (along .1)) (walked (along .0) (along .2)) fits
   where
     laid : Laid
     laid = record { edges = r .edges; sum = r .sum }
 
-    walked : (rest : List ℕ) → Walks (r .edges) s rest t → length (after (s ∷ rest) r .edges) ≤ mostEdges → Applied n es (pair s t ∷ []) r (after (s ∷ rest) r)
-    walked rest w fits = record { copied = one-more n es (r .retraces) s rest t laid below w fits c; flips = λ v. omega (arith, lay-parity s rest laid t w v) }
+    walked : (rest : List ℕ) → Walks (r .edges) s rest t → length (retraced (s ∷ rest) r .edges) ≤ most → Applied most n es (pair s t ∷ []) r (retraced (s ∷ rest) r)
+    walked rest w fits = record { copied = one-more most n es (r .retraces) s rest t laid below w fits c; flips = λ v. omega (arith, lay-parity s rest laid t w v) }
 
 pub same-repair : (r r' : Repair) → repaired r ≡ repaired r' → r ≡ r'
 same-repair r r' e = cc
 
 -- how a first pair and the others were applied
-record Applies (n : ℕ) (p : Pair) (ps : List Pair) (r r' : Repair) : Type 0 where
+record Applies (most number n : ℕ) (p : Pair) (ps : List Pair) (r r' : Repair) : Type 0 where
   path : List ℕ
   isPath : shortestPath n (r .edges) (p .from) (p .to) ≡ found path
-  fits : length (after path r .edges) ≤ mostEdges
-  rest : applyMatching n ps (after path r) ≡ repaired r'
+  fits : length (retraced path r .edges) ≤ most
+  rest : applyMatching most number n ps (retraced path r) ≡ repaired r'
 
-applies : (n : ℕ) (p : Pair) (ps : List Pair) (r r' : Repair) → applyMatching n (p ∷ ps) r ≡ repaired r' → Applies n p ps r r'
+applies : (most number n : ℕ) (p : Pair) (ps : List Pair) (r r' : Repair) → applyMatching most number n (p ∷ ps) r ≡ repaired r' → Applies most number n p ps r r'
 unfolding applyMatching
-applies n p ps r r' e = go (shortestPath n (r .edges) (p .from) (p .to)) refl e
+applies most number n p ps r r' e = go (shortestPath n (r .edges) (p .from) (p .to)) refl e
   where
-    fit : (path : List ℕ) → shortestPath n (r .edges) (p .from) (p .to) ≡ found path → (t : Bool) → leb (length (after path r .edges)) mostEdges ≡ t
-        → elim t [ false ↦ stopped 13 | true ↦ applyMatching n ps (after path r) ] ≡ repaired r' → Applies n p ps r r'
+    fit : (path : List ℕ) → shortestPath n (r .edges) (p .from) (p .to) ≡ found path → (t : Bool) → leb (length (retraced path r .edges)) most ≡ t
+        → elim t [ false ↦ stopped number | true ↦ applyMatching most number n ps (retraced path r) ] ≡ repaired r' → Applies most number n p ps r r'
     fit path f false t e = absurd (true≢false (cc))
-    fit path f true t e = record { path = path; isPath = f; fits = leb-true (length (after path r .edges)) mostEdges t; rest = e }
+    fit path f true t e = record { path = path; isPath = f; fits = leb-true (length (retraced path r .edges)) most t; rest = e }
 
     go : (x : Path) → shortestPath n (r .edges) (p .from) (p .to) ≡ x
         → elim x [
-          | error ↦ stopped 12
-          | found path ↦ elim (leb (length (after path r .edges)) mostEdges) [ false ↦ stopped 13 | true ↦ applyMatching n ps (after path r) ]
-        ] ≡ repaired r' → Applies n p ps r r'
+          | error ↦ stopped refusedPath
+          | found path ↦ elim (leb (length (retraced path r .edges)) most) [ false ↦ stopped number | true ↦ applyMatching most number n ps (retraced path r) ]
+        ] ≡ repaired r' → Applies most number n p ps r r'
     go error f e = absurd (true≢false (cc))
-    go (found path) f e = fit path f (leb (length (after path r .edges)) mostEdges) refl e
+    go (found path) f e = fit path f (leb (length (retraced path r .edges)) most) refl e
 
-pub applied : (n : ℕ) (es : List Edge) (ps : List Pair) (r r' : Repair) → applyMatching n ps r ≡ repaired r' → ((v : ℕ) → 0 < count v (ends ps) → v < n)
-    → WithCopies n es (r .edges) (r .retraces) → Applied n es ps r r'
+pub applied : (most number n : ℕ) (es : List Edge) (ps : List Pair) (r r' : Repair) → applyMatching most number n ps r ≡ repaired r' → ((v : ℕ) → 0 < count v (ends ps) → v < n)
+    → WithCopies most n es (r .edges) (r .retraces) → Applied most n es ps r r'
 unfolding applyMatching count ends
-applied n es [] r r' e below c = subst (Applied n es [] r) (same-repair r r' e) (record { copied = c; flips = λ v. omega arith })
-applied n es (p ∷ ps) r r' e below c =
-    let a = applies n p ps r r' e in
-    let first = retraced n es (p .from) (p .to) (a .path) r (below (p .from) (omega (arith, hit-same (p .from)))) (a .isPath) (a .fits) c in
-    let others = applied n es ps (after (a .path) r) r' (a .rest) (λ v h. below v (omega arith)) (first .copied) in
+applied most number n es [] r r' e below c = subst (Applied most n es [] r) (same-repair r r' e) (record { copied = c; flips = λ v. omega arith })
+applied most number n es (p ∷ ps) r r' e below c =
+    let a = applies most number n p ps r r' e in
+    let first = pair-applied most n es (p .from) (p .to) (a .path) r (below (p .from) (omega (arith, hit-same (p .from)))) (a .isPath) (a .fits) c in
+    let others = applied most number n es ps (retraced (a .path) r) r' (a .rest) (λ v h. below v (omega arith)) (first .copied) in
     record { copied = others .copied; flips = λ v. omega (arith, first .flips v, others .flips v) }

@@ -4,6 +4,7 @@ use mathlib.Core.List.{[], _∷_}
 use mathlib.Core.Bool.{false}
 use lib.IntN.{pos, negsuc}
 use lib.Ieee.{fin}
+use Rattle.limits.specs.Limits.{mostEdges, refusedEdges}
 use Rattle.graph_spec.specs.Graph.{edge}
 use Rattle.repair_spec.proofs.Retrace.{tiny}
 use Rattle.repair_spec.specs.Repair.{close, repaired}
@@ -11,7 +12,7 @@ use Rattle.repair_spec.specs.Repair.{close, repaired}
 -- ---- worked examples
 
 -- The closing retrace is summed by itself, 2 ^ -53 + 2 ^ -53, and then added to 1: one running sum would stay at 1.
-summed-apart : close 3 (record { edges = edge 0 1 tiny ∷ edge 1 2 tiny ∷ []; retraces = []; sum = fin false 1 (pos 0) })
+summed-apart : close mostEdges refusedEdges 3 (record { edges = edge 0 1 tiny ∷ edge 1 2 tiny ∷ []; retraces = []; sum = fin false 1 (pos 0) })
     ≡ repaired (record {
       edges = edge 0 1 tiny ∷ edge 1 2 tiny ∷ edge 0 1 tiny ∷ edge 1 2 tiny ∷ [];
       retraces = (0 ∷ 1 ∷ 2 ∷ []) ∷ [];

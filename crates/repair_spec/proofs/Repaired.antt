@@ -24,9 +24,9 @@ use Rattle.repair_spec.proofs.Pairs.{ends, AllButTwo, greedy-pairs}
 use Rattle.repair_spec.proofs.Matched.{optimal-pairs}
 use Rattle.repair_spec.proofs.Applied.{WithCopies, nothing-copied, applied, same-repair}
 
--- What holds of the repair r of the graph g.
-pub record Repaired (g : Graph) (s : Settings) (r : Repair) : Type 0 where
-  pub copied : WithCopies (length (g .nodes)) (g .edges) (r .edges) (r .retraces)
+-- What holds of the repair r of the graph g with a limit of edges.
+pub record Repaired (most : ℕ) (g : Graph) (s : Settings) (r : Repair) : Type 0 where
+  pub copied : WithCopies most (length (g .nodes)) (g .edges) (r .edges) (r .retraces)
   -- closing, or where no node was odd, none is left odd
   pub none-left : (closing s ≡ true) ⊎ (oddNodes (length (g .nodes)) (g .edges) ≡ []) → oddNodes (length (g .nodes)) (r .edges) ≡ []
   -- otherwise two are
@@ -36,14 +36,14 @@ pub record Repaired (g : Graph) (s : Settings) (r : Repair) : Type 0 where
 -- ---- the pairs
 
 -- of more than two odd nodes
-pairs-of : (g : Graph) (s : Settings) (vs : List ℕ) → 2 < length vs → length vs % 2 ≡ 0 → AllButTwo vs (pairsOf g s vs)
+pub pairs-of : (g : Graph) (s : Settings) (vs : List ℕ) → 2 < length vs → length vs % 2 ≡ 0 → AllButTwo vs (pairsOf g s vs)
 unfolding pairsOf
 pairs-of g s vs h e =
     either (AllButTwo vs) _ _ (optimal-pairs (distanceIn (rows (length (g .nodes)) (g .edges) vs)) vs (omega arith) e)
     (greedy-pairs (length vs) (g .nodes) vs (omega arith) (omega arith) e) (optimal s)
 
 -- the one pair of two odd nodes
-pair-of : (vs : List ℕ) → length vs ≡ 2 → (v : ℕ) → count v (ends (pair (getD vs 0 0) (getD vs 1 0) ∷ [])) ≡ count v vs
+pub pair-of : (vs : List ℕ) → length vs ≡ 2 → (v : ℕ) → count v (ends (pair (getD vs 0 0) (getD vs 1 0) ∷ [])) ≡ count v vs
 unfolding count ends
 pair-of [] h v = absurd (omega arith)
 pair-of (x ∷ []) h v = absurd (omega arith)
@@ -52,7 +52,7 @@ pair-of (x ∷ y ∷ z ∷ vs) h v = absurd (omega arith)
 
 -- ---- parities: fs has those of es but for the nodes of the pairs ps
 
-odd-below : (n : ℕ) (es : List Edge) (v : ℕ) → 0 < count v (oddNodes n es) → v < n
+pub odd-below : (n : ℕ) (es : List Edge) (v : ℕ) → 0 < count v (oddNodes n es) → v < n
 odd-below n es v h = lt-of-not-le (λ l. omega (arith, count-outside es n v 0 (λ u a b q. omega arith)))
 
 module _ (n : ℕ) (es fs : List Edge) (ps : List Pair) (flips : (v : ℕ) → (degree fs v + degree es v + count v (ends ps)) % 2 ≡ 0) where
@@ -78,17 +78,17 @@ module _ (n : ℕ) (es fs : List Edge) (ps : List Pair) (flips : (v : ℕ) → (
 -- ---- before closing, and closing
 
 -- The pairs' retraces are laid: no node was odd and none is, or some were and two are.
-record PairsLaid (n : ℕ) (es : List Edge) (r : Repair) : Type 0 where
-  copied : WithCopies n es (r .edges) (r .retraces)
+record PairsLaid (most n : ℕ) (es : List Edge) (r : Repair) : Type 0 where
+  copied : WithCopies most n es (r .edges) (r .retraces)
   left : ((oddNodes n es ≡ []) × (oddNodes n (r .edges) ≡ [])) ⊎ ((oddNodes n es ≡ [] → ⊥) × (length (oddNodes n (r .edges)) ≡ 2))
 
-record Closed (n : ℕ) (es : List Edge) (r : Repair) : Type 0 where
-  copied : WithCopies n es (r .edges) (r .retraces)
+record Closed (most n : ℕ) (es : List Edge) (r : Repair) : Type 0 where
+  copied : WithCopies most n es (r .edges) (r .retraces)
   none-odd : oddNodes n (r .edges) ≡ []
 
-closed : (n : ℕ) (es : List Edge) (r c : Repair) → PairsLaid n es r → close n r ≡ repaired c → Closed n es c
+closed : (most number n : ℕ) (es : List Edge) (r c : Repair) → PairsLaid most n es r → close most number n r ≡ repaired c → Closed most n es c
 unfolding close
-closed n es r c m e = go (eqb (length odd) 2) refl (applyMatching n last start) refl e
+closed most number n es r c m e = go (eqb (length odd) 2) refl (applyMatching most number n last start) refl e
   where
     odd : List ℕ
     odd = oddNodes n (r .edges)
@@ -102,42 +102,42 @@ closed n es r c m e = go (eqb (length odd) 2) refl (applyMatching n last start) 
     none : (length odd ≡ 2 → ⊥) → odd ≡ []
     none h = elim (m .left) [ inl p ↦ p .1 | inr p ↦ absurd (h (p .1)) ]
 
-    go : (t : Bool) → eqb (length odd) 2 ≡ t → (x : Repairing) → applyMatching n last start ≡ x
+    go : (t : Bool) → eqb (length odd) 2 ≡ t → (x : Repairing) → applyMatching most number n last start ≡ x
         → elim t [
           | false ↦ repaired r
           | true ↦ addSum (r .sum) x
         ] ≡ repaired c
-        → Closed n es c
-    go false t x a e = subst (Closed n es) (same-repair r c e) (record { copied = m .copied; none-odd = none (eqb-false (length odd) 2 t) })
+        → Closed most n es c
+    go false t x a e = subst (Closed most n es) (same-repair r c e) (record { copied = m .copied; none-odd = none (eqb-false (length odd) 2 t) })
     go true t (stopped i) a e = absurd (true≢false (cc))
     go true t (repaired d) a e =
         let two = pair-of odd (eqb-true (length odd) 2 t) in
-        let b = applied n es last start d a (λ v h. odd-below n (r .edges) v (omega (arith, two v))) (m .copied) in
-        subst (Closed n es) (same-repair _ c e) (record { copied = b .copied; none-odd = none-remain n (r .edges) (d .edges) last (b .flips) two })
+        let b = applied most number n es last start d a (λ v h. odd-below n (r .edges) v (omega (arith, two v))) (m .copied) in
+        subst (Closed most n es) (same-repair _ c e) (record { copied = b .copied; none-odd = none-remain n (r .edges) (d .edges) last (b .flips) two })
 
 -- ---- the whole repair
 
-module _ (g : Graph) (s : Settings) where
+module _ (most number : ℕ) (g : Graph) (s : Settings) where
   abbrev nodeCount : ℕ
   nodeCount = length (g .nodes)
 
   -- not closing
-  not-closed : closing s ≡ false → (r : Repair) → PairsLaid nodeCount (g .edges) r → Repaired g s r
+  not-closed : closing s ≡ false → (r : Repair) → PairsLaid most nodeCount (g .edges) r → Repaired most g s r
   not-closed f r m = record {
     copied = m .copied;
     none-left = λ h. elim (m .left) [ inl p ↦ p .1 | inr p ↦ absurd (elim h [ inl t ↦ true≢false (sym t ∙ f) | inr q ↦ p .0 q ]) ];
     two-left = λ _ some. elim (m .left) [ inl p ↦ absurd (some (p .0)) | inr p ↦ two-odd nodeCount (r .edges) (p .1) ];
   }
 
-  ended : (x : Repairing) (r : Repair) → ((d : Repair) → x ≡ repaired d → PairsLaid nodeCount (g .edges) d) → closeIf (closing s) nodeCount x ≡ repaired r → Repaired g s r
+  ended : (x : Repairing) (r : Repair) → ((d : Repair) → x ≡ repaired d → PairsLaid most nodeCount (g .edges) d) → closeIf (closing s) most number nodeCount x ≡ repaired r → Repaired most g s r
   unfolding closeIf
   ended x r h e = go (closing s) refl x h e
     where
-      go : (b : Bool) → closing s ≡ b → (x : Repairing) → ((d : Repair) → x ≡ repaired d → PairsLaid nodeCount (g .edges) d) → closeIf b nodeCount x ≡ repaired r → Repaired g s r
+      go : (b : Bool) → closing s ≡ b → (x : Repairing) → ((d : Repair) → x ≡ repaired d → PairsLaid most nodeCount (g .edges) d) → closeIf b most number nodeCount x ≡ repaired r → Repaired most g s r
       go b q (stopped i) h e = absurd (true≢false (cc))
-      go false q (repaired d) h e = subst (Repaired g s) (same-repair d r e) (not-closed q d (h d refl))
+      go false q (repaired d) h e = subst (Repaired most g s) (same-repair d r e) (not-closed q d (h d refl))
       go true q (repaired d) h e =
-          let c = closed nodeCount (g .edges) d r (h d refl) e in
+          let c = closed most number nodeCount (g .edges) d r (h d refl) e in
           record { copied = c .copied; none-left = λ _. c .none-odd; two-left = λ f _. absurd (true≢false (sym q ∙ f)) }
 
   module _ (inside : Inside nodeCount (g .edges)) where
@@ -145,28 +145,28 @@ module _ (g : Graph) (s : Settings) where
     odd = oddNodes nodeCount (g .edges)
 
     -- two odd nodes or none
-    few : length odd ≤ 2 → PairsLaid nodeCount (g .edges) (drawn g)
-    few l = record { copied = nothing-copied nodeCount (g .edges) inside; left = go odd refl }
+    few : length odd ≤ 2 → PairsLaid most nodeCount (g .edges) (drawn g)
+    few l = record { copied = nothing-copied most nodeCount (g .edges) inside; left = go odd refl }
       where
         go : (vs : List ℕ) → odd ≡ vs → ((odd ≡ []) × (odd ≡ [])) ⊎ ((odd ≡ [] → ⊥) × (length odd ≡ 2))
         go [] q = inl (q, q)
         go (u ∷ vs) q = inr (λ z. omega (arith, ap length z, ap length q), omega (arith, ap length q, handshake nodeCount (g .edges) inside))
 
-    many : 2 < length odd → (d : Repair) → applyMatching nodeCount (pairsOf g s odd) (drawn g) ≡ repaired d → PairsLaid nodeCount (g .edges) d
+    many : 2 < length odd → (d : Repair) → applyMatching most number nodeCount (pairsOf g s odd) (drawn g) ≡ repaired d → PairsLaid most nodeCount (g .edges) d
     many l d q =
         let a = pairs-of g s odd l (handshake nodeCount (g .edges) inside) in
-        let b = applied nodeCount (g .edges) (pairsOf g s odd) (drawn g) d q
-        (λ v k. odd-below nodeCount (g .edges) v (omega (arith, a .counts v))) (nothing-copied nodeCount (g .edges) inside) in
+        let b = applied most number nodeCount (g .edges) (pairsOf g s odd) (drawn g) d q
+        (λ v k. odd-below nodeCount (g .edges) v (omega (arith, a .counts v))) (nothing-copied most nodeCount (g .edges) inside) in
         record { copied = b .copied; left = inr (λ z. omega (arith, ap length z), two-remain nodeCount (g .edges) (d .edges) (pairsOf g s odd) (b .flips) a) }
 
-    pub fixed : (r : Repair) → fixParity g s ≡ repaired r → Repaired g s r
+    pub fixed : (r : Repair) → fixParity most number g s ≡ repaired r → Repaired most g s r
     unfolding fixParity
     fixed r e = go (leb (length odd) 2) refl e
       where
         go : (t : Bool) → leb (length odd) 2 ≡ t
             → elim t [
-              | true ↦ closeIf (closing s) nodeCount (repaired (drawn g))
-              | false ↦ closeIf (closing s) nodeCount (applyMatching nodeCount (pairsOf g s odd) (drawn g))
-            ] ≡ repaired r → Repaired g s r
-        go true t e = ended _ r (λ d q. subst (PairsLaid nodeCount (g .edges)) (same-repair _ d q) (few (leb-true (length odd) 2 t))) e
+              | true ↦ closeIf (closing s) most number nodeCount (repaired (drawn g))
+              | false ↦ closeIf (closing s) most number nodeCount (applyMatching most number nodeCount (pairsOf g s odd) (drawn g))
+            ] ≡ repaired r → Repaired most g s r
+        go true t e = ended _ r (λ d q. subst (PairsLaid most nodeCount (g .edges)) (same-repair _ d q) (few (leb-true (length odd) 2 t))) e
         go false t e = ended _ r (many (leb-false (length odd) 2 t)) e

@@ -6,7 +6,7 @@ use lib.ListN.{length, getD}
 use lib.Dec.{eqb, leb, ltb}
 use lib.Ieee.{Float, binary64, add}
 use Rattle.drawing_spec.specs.Drawing.{Settings, optimal, closing}
-use Rattle.limits.specs.Limits.{mostEdges}
+use Rattle.limits.specs.Limits.{refusedPath}
 use Rattle.graph_spec.specs.Graph.{Edge, Graph}
 use Rattle.graph_spec.specs.Degree.{oddNodes, oddFrom}
 use Rattle.repair_spec.specs.Distance.{distances, distanceAt, infinity, zeroLength}
@@ -24,18 +24,18 @@ pub data Repairing : Type 0 where
   stopped : ℕ → Repairing
   repaired : Repair → Repairing
 
--- one retrace after the other, each on the graph as it then is, of n nodes: 12 where there is no path, 13 where a retrace takes the graph past the limit
-unfoldable pub applyMatching : ℕ → List Pair → Repair → Repairing
+-- one retrace after the other, each on the graph as it then is, of n nodes: 12 where there is no path, `number` where a retrace takes the graph past `most` edges
+unfoldable pub applyMatching : ℕ → ℕ → ℕ → List Pair → Repair → Repairing
 unfolding shortestPath layPath
-applyMatching n [] r = repaired r
-applyMatching n (p ∷ ps) r =
+applyMatching most number n [] r = repaired r
+applyMatching most number n (p ∷ ps) r =
     elim (shortestPath n (r .edges) (p .from) (p .to)) [
-      | error ↦ stopped 12
+      | error ↦ stopped refusedPath
       | found path ↦
           let l = layPath path (record { edges = r .edges; sum = r .sum }) in
-          elim (leb (length (l .edges)) mostEdges) [
-            | false ↦ stopped 13
-            | true ↦ applyMatching n ps (record { edges = l .edges; retraces = r .retraces ++ (path ∷ []); sum = l .sum })
+          elim (leb (length (l .edges)) most) [
+            | false ↦ stopped number
+            | true ↦ applyMatching most number n ps (record { edges = l .edges; retraces = r .retraces ++ (path ∷ []); sum = l .sum })
           ]
     ]
 
@@ -71,33 +71,34 @@ addSum x (stopped k) = stopped k
 addSum x (repaired r) = repaired (withSum (add binary64 x (r .sum)) r)
 
 -- The two nodes that are left are joined too. This retrace is summed by itself and then added.
-unfoldable pub close : ℕ → Repair → Repairing
+unfoldable pub close : ℕ → ℕ → ℕ → Repair → Repairing
 unfolding applyMatching oddFrom add
-close n r =
+close most number n r =
     let odd = oddNodes n (r .edges) in
     elim (eqb (length odd) 2) [
       | false ↦ repaired r
-      | true ↦ addSum (r .sum) (applyMatching n (pair (getD odd 0 0) (getD odd 1 0) ∷ []) (withSum zeroLength r))
+      | true ↦ addSum (r .sum) (applyMatching most number n (pair (getD odd 0 0) (getD odd 1 0) ∷ []) (withSum zeroLength r))
     ]
 
-unfoldable pub closeIf : Bool → ℕ → Repairing → Repairing
+unfoldable pub closeIf : Bool → ℕ → ℕ → ℕ → Repairing → Repairing
 unfolding close
-closeIf b n (stopped k) = stopped k
-closeIf false n (repaired r) = repaired r
-closeIf true n (repaired r) = close n r
+closeIf b most number n (stopped k) = stopped k
+closeIf false most number n (repaired r) = repaired r
+closeIf true most number n (repaired r) = close most number n r
 
 -- no retrace yet
 abbrev pub drawn : Graph → Repair
 drawn g = record { edges = g .edges; retraces = []; sum = zeroLength }
 
-unfoldable pub fixParity : Graph → Settings → Repairing
+-- the limit of edges, and the number given for passing it, are the caller's
+unfoldable pub fixParity : ℕ → ℕ → Graph → Settings → Repairing
 unfolding closeIf applyMatching pairsOf oddFrom
-fixParity g s =
+fixParity most number g s =
     let n = length (g .nodes) in
     let odd = oddNodes n (g .edges) in
     elim (leb (length odd) 2) [
-      | true ↦ closeIf (closing s) n (repaired (drawn g))
-      | false ↦ closeIf (closing s) n (applyMatching n (pairsOf g s odd) (drawn g))
+      | true ↦ closeIf (closing s) most number n (repaired (drawn g))
+      | false ↦ closeIf (closing s) most number n (applyMatching most number n (pairsOf g s odd) (drawn g))
     ]
 
 -- ---- conditions 10 and 11: Optimal's table

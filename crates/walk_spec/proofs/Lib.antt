@@ -1,6 +1,7 @@
 -- Laws of the definitions in specs/.
 pub mod Circuit
 pub mod Cut
+pub mod Examples
 pub mod Free
 pub mod Line
 pub mod Next

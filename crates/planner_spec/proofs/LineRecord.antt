@@ -6,7 +6,7 @@ use lib.Dec.{lit<}
 use borrow.Author.Tests.{eq-eqb}
 use Prim.Native.Nat.{ℕ, _+_, _*_, _/_, _^_, _≤_, _<_}
 use native.Mathlib.Omega.{arith}
-use lib.ListN.{length, drop}
+use lib.ListN.{length, drop, length-append}
 use lib.Seq.{drop-drop}
 use lib.Ieee.{binary64}
 use lib.Ieee.Bits.{toBits-lt}
@@ -14,14 +14,13 @@ use lib.Ieee.Fits.{round-fits}
 use Rattle.grid.specs.Grid.{origin, gridExponent, readPlace, writePlace}
 use Rattle.grid.proofs.Back.{read-write, write-is, coordinate-is}
 use Rattle.drawing_spec.specs.Bytes.{number, bytes}
-use Rattle.drawing_spec.proofs.Back.{number-bytes, drop-bytes}
+use Rattle.drawing_spec.proofs.Back.{number-bytes, bytes-length, drop-bytes}
 use Rattle.drawing_spec.specs.Drawing.{Point}
 use Rattle.drawing_spec.specs.Members.{All}
 use Rattle.drawing_spec.specs.OnGrid.{OnGrid}
 use Rattle.drawing_spec.specs.Read.{placeAt, points}
 use Rattle.drawing_spec.proofs.Accepted.{points-one}
-use Rattle.planner_spec.specs.Plan.{pointBytes, lineRecord}
-use Rattle.planner_spec.specs.Words.{lineWritten}
+use Rattle.planner_spec.specs.LineRecord.{pointBytes, lineRecord, lineWritten}
 
 -- a coordinate's pattern has 64 bits
 written-below : (p : ℕ) → writePlace p < 256 ^ 8
@@ -75,3 +74,33 @@ line-back line rest a h =
     let four : number 2 (drop 4 head) ≡ 4 = rw (drop-bytes 4 (16 * length line) kind) (number-bytes 2 4 body (lit< tt)) in
     let behind : drop 6 head ≡ body = drop-on 4 2 head kind body (drop-bytes 4 (16 * length line) kind) (drop-bytes 2 4 body) in
     rw (line-record line rest) (kind-4 head four ∙ rw (count, behind) (points-back line rest a))
+
+-- ---- the record's length
+
+points-length : (ps : List Point) → length (pointBytes ps) ≡ 16 * length ps
+unfolding pointBytes
+points-length [] = refl
+points-length (p ∷ ps) =
+    let x = bytes 8 (writePlace (p .x)) in
+    let y = bytes 8 (writePlace (p .y)) in
+    omega (
+      arith,
+      length-append x (y ++ pointBytes ps),
+      length-append y (pointBytes ps),
+      bytes-length 8 (writePlace (p .x)),
+      bytes-length 8 (writePlace (p .y)),
+      points-length ps,
+    )
+
+pub record-length : (line : List Point) → length (lineRecord line) ≡ 6 + 16 * length line
+unfolding lineRecord
+record-length line =
+    let size = bytes 4 (16 * length line) in
+    omega (
+      arith,
+      length-append size (bytes 2 4 ++ pointBytes line),
+      length-append (bytes 2 4) (pointBytes line),
+      bytes-length 4 (16 * length line),
+      bytes-length 2 4,
+      points-length line,
+    )
