@@ -1,13 +1,8 @@
--- The arrays of a drawing's graph, and its plan. Assumes nothing.
+-- What the planner asks of a drawing: that its arrays are sound, and the canvas is none that check 5 refuses.
 use Prim.Native.Nat.{_≤_}
 use Rattle.limits.specs.Limits.{mostSide}
-use Rattle.drawing_spec.specs.Drawing as drawn
-use Rattle.drawing_spec.specs.Refusal as refusal
 use Rattle.file.specs.declared.Drawing.{Drawing}
 use Rattle.graph.specs.Sound.{Sound}
-use Rattle.planner_graph.specs.declared.Answer.the-variants as answer
-
--- ---- what the planner asks of a drawing: that its arrays are sound, and the canvas is none that check 5 refuses
 
 pub record Drawable (d : Drawing) : Type 0 where
   pub sound : Sound d

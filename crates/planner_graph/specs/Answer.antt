@@ -1,50 +1,39 @@
--- What the code's answer says, and what it is asked of it. Assumes nothing.
+-- What the code's answer says, and what the planner asks of a graph in arrays.
 use mathlib.Core.Path.{_≡_}
 use mathlib.Core.List.{List}
 use Prim.Native.Nat.{ℕ, _≤_}
-use lib.Ieee.{binary64, toBits}
-use Rattle.sums.specs.Key.{Nonneg}
+use lib.ListN.{length}
+use lib.Ieee.{Float, binary64, toBits}
 use Rattle.limits.specs.Limits.{mostSide}
-use Rattle.graph_spec.specs.Graph.{Graph}
-use Rattle.graph_adjacency.specs.Lists.{Adjacency}
+use Rattle.sums.specs.Key.{Nonneg}
 use Rattle.file_records.specs.declared.Settings.{Settings}
-use Rattle.file_records.specs.Meaning.{settingsOf}
+use Rattle.graph_adjacency.specs.Lists.{Adjacency}
+use Rattle.graph_arrays.specs.Arrays.{NodesHeld, EdgesHeld}
 use Rattle.planner_spec.specs.Plan as plan
-use Rattle.graph_stored.specs.Stored.{Stored}
 use Rattle.planner_graph.specs.declared.Answer.{Answer}
 use Rattle.planner_graph.specs.declared.Answer.the-variants.{Refused, Planned}
-use Rattle.planner_graph.specs.GraphPlan.{graphPlan}
 
--- document 01's number and values for each case, with the output as it then is
-abbrev pub answerFrom : Answer → List ℕ → plan.Answer
-answerFrom (Refused k) output = plan.refusal k
-answerFrom (Planned x before after points) output = plan.planned (record { retrace = toBits binary64 x; before = before; after = after; points = points; output = output })
+-- document 01's number and values for each case; the retrace by its bits
+abbrev pub answerOf : Answer → plan.Answer
+answerOf (Refused k) = plan.refusal k
+answerOf (Planned x before after points) = plan.planned (record { retrace = toBits binary64 x; before = before; after = after; points = points })
 
--- a refusal leaves the output as it was
-abbrev pub Untouched : Answer → List ℕ → List ℕ → Type 0
-Untouched (Refused k) output₀ output = output ≡ output₀
-Untouched (Planned x before after points) output₀ output = Unit
+-- the answer, with the output as it then is
+abbrev pub outcomeOf : Answer → List ℕ → plan.Outcome
+outcomeOf r output = record { answer = answerOf r; output = output }
 
--- the length of the retraces is no NaN and not below 0
+-- a retrace's length is no NaN and not below 0
 abbrev pub Number : Answer → Type 0
 Number (Refused k) = Unit
 Number (Planned x before after points) = Nonneg binary64 x
 
-pub record Answered (r : Answer) (output₀ output : List ℕ) (p : plan.Answer) : Type 0 where
-  pub is : answerFrom r output ≡ p
-  pub untouched : Untouched r output₀ output
-  pub number : Number r
+-- what is lent: the lengths of the two tables, and the output's bytes
+abbrev pub lent : List Float → List ℕ → List ℕ → plan.Lent
+lent floats bytes output = record { floats = length floats; bytes = length bytes; output = output }
 
-abbrev pub lent : ℕ → ℕ → List ℕ → plan.Lent
-lent floats bytes output = record { floats = floats; bytes = bytes; output = output }
-
--- the arrays hold some graph, and the canvas is none that check 5 refuses
-pub record Plannable (t : Settings) (xs ys : List ℕ) (a : Adjacency) (n m : ℕ) : Type 0 where
-  pub graph : Graph
-  pub stored : Stored graph xs ys a n m
-  pub wide : t .width ≤ mostSide
-  pub high : t .height ≤ mostSide
-
--- the answer is the plan of whatever graph the arrays hold
-abbrev pub PlansGraph : Settings → List ℕ → List ℕ → Adjacency → ℕ → ℕ → ℕ → ℕ → List ℕ → List ℕ → Answer → Type 0
-PlansGraph t xs ys a n m floats bytes output₀ output r = (g : Graph) → Stored g xs ys a n m → Answered r output₀ output (graphPlan g (settingsOf t) (lent floats bytes output₀))
+-- The arrays hold a graph of n nodes and m edges, and the canvas is none that check 5 refuses.
+pub record Plannable (settings : Settings) (n m : ℕ) (xs ys : List ℕ) (a : Adjacency) : Type 0 where
+  pub nodes : NodesHeld n xs ys
+  pub edges : EdgesHeld n m a
+  pub wide : settings .width ≤ mostSide
+  pub high : settings .height ≤ mostSide

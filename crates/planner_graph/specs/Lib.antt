@@ -1,3 +1,2 @@
--- The plan of a graph that stands in arrays: checks 9 to 14 and the answer.
-pub mod GraphPlan
+-- The planner's answer, and what it asks of a graph in arrays.
 pub mod Answer

@@ -6,3 +6,4 @@ pub mod LineEnds
 pub mod LineRecord
 pub mod Plan
 pub mod Proved
+pub mod Numbered

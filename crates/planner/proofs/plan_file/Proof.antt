@@ -1,10 +1,10 @@
--- `plan_file::plan_file` meets its contract. Assumes nothing.
+-- `planner::plan_file` meets its contract. Assumes nothing.
 use mathlib.Core.Path.{_≡_, ap, _∙_}
 use Prim.Native.Nat.{ℕ}
 use lib.ListN.{length, replicate}
 use borrow.Author.Needs.{needs}
 use Rattle.repair_spec.specs.Distance.{zeroLength}
-use Rattle.planner.proofs.Answer.{demand-met}
+use Rattle.planner.proofs.Answer.{after-call, demand-met}
 use Rattle.planner.proofs.plan_file.Statement.{statement}
 use Rattle.planner.proofs.plan_file.Tie as tie
 use Rattle.planner.proofs.plan_file.Reads as reads
@@ -13,44 +13,37 @@ use Rattle.repair_optimal.proofs.clear_bytes.Reads as clear-bytes-reads
 use Rattle.repair_optimal.proofs.clear_floats.Reads as clear-floats-reads
 use Rattle.planner.proofs.plan_bytes.Reads as plan-bytes-reads
 
--- src/lib.rt:87:9
 plan-bytes-requires : tie.Need-plan-bytes-requires
 plan-bytes-requires c κs = search needs
 
--- src/lib.rt:88:5
 clear-floats-requires : tie.Need-clear-floats-requires
 clear-floats-requires c κs = search needs
 
--- src/lib.rt:89:5
 clear-bytes-requires : tie.Need-clear-bytes-requires
 clear-bytes-requires c κs = search needs
 
--- src/lib.rt:81:1
 same-length : tie.Need-same-length
 same-length c = search needs
 
--- src/lib.rt:81:1
 same-length-2 : tie.Need-same-length-2
 same-length-2 c = search needs
 
--- src/lib.rt:81:1
 same-length-3 : tie.Need-same-length-3
 same-length-3 c = search needs
 
--- src/lib.rt:81:1
 returns : tie.Need-returns
 returns c =
     let p = c .before .before .before .before .before .before .before .before .before .before .before .before .before .before in
     let b = p .before .before .before .before .before .before .before .before in
     let lf : length (p .plan-bytes .last .1 .0) ≡ length (b .args .floats .now) = search needs in
-    let lb : length (p .plan-bytes .last .1 .1 .0) ≡ length (b .args .bytes .now) = search needs in (
-      p .plan-bytes .ensures,
+    let lb : length (p .plan-bytes .last .1 .1 .0) ≡ length (b .args .bytes .now) = search needs in
+    let is = p .plan-bytes .ensures .0 in (
+      after-call (b .args .file .now) (b .args .floats .now) (b .args .bytes .now) (b .args .output .now) (p .plan-bytes .result) _ is _ _
+      (c .before .before .before .before .before .before .clear-floats .ensures ∙ ap (λ (k : ℕ). replicate k zeroLength) lf)
+      (c .before .before .clear-bytes .ensures ∙ ap (λ (k : ℕ). replicate {A = ℕ} k 0) lb),
       (
-        record {
-          floats-are = c .before .before .before .before .before .before .clear-floats .ensures ∙ ap (λ (k : ℕ). replicate k zeroLength) lf;
-          bytes-are = c .before .before .clear-bytes .ensures ∙ ap (λ (k : ℕ). replicate {A = ℕ} k 0) lb;
-        },
-        demand-met (b .args .file .now) (length (b .args .floats .now)) (length (b .args .bytes .now)) (b .args .output .now) _ (p .plan-bytes .result) (p .plan-bytes .ensures),
+        demand-met (b .args .file .now) (b .args .floats .now) (b .args .bytes .now) (b .args .output .now) (p .plan-bytes .result) _ is,
+        p .plan-bytes .ensures .1,
       ),
     )
 

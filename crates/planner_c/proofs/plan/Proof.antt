@@ -1,7 +1,7 @@
--- `plan_c::plan` meets its contract. Assumes nothing.
+-- `planner_c::plan` meets its contract. Assumes nothing.
 use mathlib.Core.Path.{sym, ap}
 use borrow.Author.Needs.{needs}
-use Rattle.planner_c.specs.Exported.{planFrom}
+use Rattle.planner_c.proofs.ExportedLaws.{output-is, floats-are, bytes-are, refused-exported, refused-some, planned-exported, planned-demand}
 use Rattle.planner_c.proofs.plan.Statement.{statement}
 use Rattle.planner_c.proofs.plan.Tie as tie
 use Rattle.planner_c.proofs.plan.Reads as reads
@@ -32,8 +32,15 @@ same-length-3 c = search needs
 returns : tie.Need-returns
 unfolding lib.Ieee.ofBits
 returns c =
-    let p = c .before .before .before .before .before .before .before .before .before .plan-file in
-    record { answer = p .result; is = sym (ap planFrom (c .before .answer .given .1)); answered = p .ensures .0; cleared = p .ensures .1 .0; demand = p .ensures .1 .1 }
+    let f = c .before .before .before .before .before .before .before .before .before in
+    let p = f .plan-file in
+    let is = p .ensures .0 in
+    let met = p .ensures .1 .0 in
+    let number = p .ensures .1 .1 in
+    let e = c .before .answer .given .1 in (
+      refused-exported _ _ _ _ _ _ _ _ is met number _ (sym e),
+      (output-is _ _ _ _ _ _ _ _ is met number, ((floats-are _ _ _ _ _ _ _ _ is met number, bytes-are _ _ _ _ _ _ _ _ is met number), refused-some _ _ _ _ _ _ _ _ is met number _ (sym e))),
+    )
 
 same-length-4 : tie.Need-same-length-4
 same-length-4 c = search needs
@@ -47,7 +54,13 @@ same-length-6 c = search needs
 returns-2 : tie.Need-returns-2
 returns-2 c =
     let p = c .before .before .before .before .before .before .before .before .before .plan-file in
-    record { answer = p .result; is = sym (ap planFrom (c .before .answer2 .given .1)); answered = p .ensures .0; cleared = p .ensures .1 .0; demand = p .ensures .1 .1 }
+    let is = p .ensures .0 in
+    let met = p .ensures .1 .0 in
+    let number = p .ensures .1 .1 in
+    let e = c .before .answer2 .given .1 in (
+      planned-exported _ _ _ _ _ _ _ _ is met number _ _ _ _ (sym e),
+      (output-is _ _ _ _ _ _ _ _ is met number, ((floats-are _ _ _ _ _ _ _ _ is met number, bytes-are _ _ _ _ _ _ _ _ is met number), λ z. planned-demand _ _ _ _ _ _ _ _ is met number _ _ _ _ (sym e))),
+    )
 
 pub plan-spec : {M : Type 1} → statement M
 plan-spec =
