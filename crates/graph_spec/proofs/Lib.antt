@@ -1,12 +1,10 @@
 -- Laws of the definitions in specs/.
 pub mod Between
 pub mod Built
-pub mod Chain
 pub mod Connected
 pub mod EdgesAt
 pub mod Examples
 pub mod Few
-pub mod Graph
 pub mod Handshake
 pub mod Lines
 pub mod Nodes

@@ -1,6 +1,7 @@
 -- Laws of the definitions in specs/; Proved has demand 3, and FileDecides that nothing but the file decides.
 pub mod Counted
 pub mod Drawn
+pub mod Examples
 pub mod FileDecides
 pub mod LineEnds
 pub mod LineRecord

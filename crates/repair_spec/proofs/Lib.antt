@@ -3,15 +3,13 @@ pub mod Along
 pub mod Applied
 pub mod Copies
 pub mod Cost
+pub mod Examples
 pub mod Least
 pub mod Matched
 pub mod Nearest
-pub mod Pairing
 pub mod Pairs
 pub mod Relax
-pub mod Repair
 pub mod Repaired
-pub mod Retrace
 pub mod Rounds
 pub mod Stops
 pub mod Retraced

@@ -30,7 +30,7 @@ square : map (λ (flags : ℕ). lineOf (settings flags) (at 0 0 ∷ at 10 0 ∷ 
 unfolding lineOf
 square = refl
 
--- One segment alone: its own step is between the ends of the virtual edge too, and stays. The walk starts at the first end, by the virtual edge, which is the newest there.
+-- The departure of docs/DIFFERENCES.md, at its smallest. The step of the one segment is between the ends of the virtual edge too, and stays. The walk starts at the first end, by the virtual edge, which is the newest there.
 -- Both ends lie equally well, so the line is not turned.
 segment : lineOf (settings 0) (at 0 0 ∷ at 10 10 ∷ []) (joined 0 1 ∷ []) ≡ at 10 10 ∷ at 0 0 ∷ []
 unfolding lineOf

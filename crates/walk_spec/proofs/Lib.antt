@@ -3,7 +3,6 @@ pub mod Circuit
 pub mod Cut
 pub mod Examples
 pub mod Free
-pub mod Line
 pub mod Next
 pub mod Oriented
 pub mod Start
