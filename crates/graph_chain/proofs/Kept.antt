@@ -12,7 +12,7 @@ use Rattle.drawing_spec.specs.Drawing.{Point, same}
 use Rattle.graph_spec.specs.Chain.{inner, changes}
 use Rattle.graph_splits.specs.Buffer.{pick}
 use Rattle.graph_splits.specs.Next.{at, keeps, nextSplit}
-use Rattle.file.specs.Back.{pointsBack}
+use Rattle.file_drawing.specs.Back.{pointsBack}
 use Rattle.graph_chain.specs.Kept.{keptFrom}
 
 module _ (a b l : Point) where

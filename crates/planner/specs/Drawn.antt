@@ -3,7 +3,7 @@ use Prim.Native.Nat.{_≤_}
 use Rattle.limits.specs.Limits.{mostSide}
 use Rattle.drawing_spec.specs.Drawing as drawn
 use Rattle.drawing_spec.specs.Refusal as refusal
-use Rattle.file.specs.declared.Drawing.{Drawing}
+use Rattle.file_drawing.specs.declared.Drawing.{Drawing}
 use Rattle.graph.specs.Sound.{Sound}
 use Rattle.planner_graph.specs.declared.Answer.the-variants as answer
 
