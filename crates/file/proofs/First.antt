@@ -17,14 +17,14 @@ use Rattle.file_records.specs.Body.{settingsFrom, recordRead}
 use Rattle.file_records.proofs.View.{settings-front}
 use Rattle.file_records.proofs.Made.{body-settings, record-whole}
 use Rattle.file_records.specs.declared.Body.the-variants as body
-use Rattle.file.specs.declared.Tally.{Tally}
-use Rattle.file.specs.Held.{settingsIn}
-use Rattle.file.specs.Tally.{tallied, noTally, pointsIn}
-use Rattle.file.proofs.TallyLaws.{settings-size, bodies-here, bodies-other, lines-counted, points-counted, links-counted}
-use Rattle.file.proofs.KindsLaws.{settings-next}
-use Rattle.file.proofs.CoordinatesLaws.{length-here, lengths-after}
-use Rattle.file.specs.Lines.{AtLines}
-use Rattle.file.proofs.LinesLaws.{points-long}
+use Rattle.file_checks.specs.declared.Tally.{Tally}
+use Rattle.file_checks.specs.Settings.{settingsIn}
+use Rattle.file_checks.specs.Tally.{tallied, noTally, pointsIn}
+use Rattle.file_checks.proofs.TallyLaws.{settings-size, bodies-here, bodies-other, lines-counted, points-counted, links-counted}
+use Rattle.file_checks.proofs.KindsLaws.{settings-next}
+use Rattle.file_checks.proofs.CoordinatesLaws.{length-here, lengths-after}
+use Rattle.file_drawing.specs.Lines.{AtLines}
+use Rattle.file_drawing.proofs.LinesLaws.{points-long}
 
 module _ (file : List ℕ) (w : isCut file ≡ false) (k : kindsFit (recordsOf file) ≡ true) (l : lengthsFit (recordsOf file) ≡ true) where
   some : 0 < length file

@@ -13,9 +13,12 @@ use Rattle.drawing_spec.specs.Refusal as refusal
 use Rattle.drawing_spec.specs.Read.{kindsFit, lengthsFit, settingsFit, countsFit, coordinatesFit, linksFit, recordsOf, isCut, drawingOf, readConditions}
 use Rattle.file.specs.declared.Verdict.{Verdict}
 use Rattle.file.specs.declared.Verdict.the-variants.{Refused, Accepted}
-use Rattle.file.specs.declared.Drawing.{Drawing}
+use Rattle.file_drawing.specs.declared.Drawing.{Drawing}
 use Rattle.file.specs.declared.Reading.{Reading}
-use Rattle.file.specs.Reading.{Passed, drawingHeld, drawingIf, firstSeven, numberOf, readingOf, refusedAs, verdictFrom}
+use Rattle.file.specs.Reading.{Passed, drawingIf, firstSeven, numberOf, readingOf, refusedAs, verdictFrom}
+use Rattle.file_drawing.specs.Held.{drawingHeld}
+use Rattle.file_drawing.specs.Back.{drawingFrom}
+use Rattle.file_drawing.proofs.Back.{drawing-back}
 
 -- the conditions 1 to 7, and 8 besides, of any truth
 seven : Bool → Bool → Bool → Bool → Bool → Bool → Bool → List refusal.Condition → List refusal.Condition
@@ -231,3 +234,12 @@ taken file h =
       links-fit = not-false _ (p8 .0);
       drawing-is = ap (λ (v : refusal.Verdict). drawingHeld (drawingIf v file)) v;
     }
+
+-- what an accepted file's reading holds is the drawing that the definitions give for the file
+pub accepted-drawing : (file : List ℕ) → readingOf file .verdict ≡ Accepted → drawingFrom (readingOf file .drawing) ≡ drawingOf (recordsOf file)
+unfolding readingOf
+accepted-drawing file h = go (refusal.verdict (readConditions file)) h
+  where
+    go : (v : refusal.Verdict) → verdictFrom v ≡ Accepted → drawingFrom (drawingHeld (drawingIf v file)) ≡ drawingOf (recordsOf file)
+    go (refusal.refused n) h = let z : _≡_ {A = ℕ} 0 1 = cc in absurd (omega arith)
+    go refusal.accepted h = drawing-back (recordsOf file)

@@ -14,22 +14,22 @@ use Rattle.drawing_spec.specs.Read.{Record, lineOf, linkOf, bodies, total, kind
 use Rattle.file_records.specs.Body.{settingsFrom, edgeFrom, recordRead}
 use Rattle.file_records.specs.declared.Settings.{Settings}
 use Rattle.file_records.specs.declared.MstEdge.{MstEdge}
-use Rattle.file.specs.declared.Tally.{Tally}
-use Rattle.file.specs.declared.Lines.{Lines}
-use Rattle.file.specs.declared.Drawing.{Drawing}
-use Rattle.file.specs.Held.{settingsIn, noSettings, noEdge}
+use Rattle.file_checks.specs.declared.Tally.{Tally}
+use Rattle.file_drawing.specs.declared.Drawing.{Drawing}
+use Rattle.file_checks.specs.Settings.{settingsIn, noSettings}
+use Rattle.file_drawing.specs.Held.{noEdge, drawingHeld}
 use Rattle.file_records.specs.Meaning.{settingsOf}
-use Rattle.file.specs.Tally.{tallied, noTally, orderFits}
-use Rattle.file.proofs.TallyLaws.{kinds, lengths}
-use Rattle.file.specs.Stores.{padded, flat, xsOf, ysOf, endsFrom}
-use Rattle.file.proofs.Stores.{sets-padded, length-flat, length-ends}
+use Rattle.file_checks.specs.Tally.{tallied, noTally, orderFits}
+use Rattle.file_checks.proofs.TallyLaws.{kinds, lengths}
+use Rattle.file_drawing.specs.Stores.{padded, flat, xsOf, ysOf, endsFrom}
+use Rattle.file_drawing.proofs.Stores.{sets-padded, length-flat, length-ends}
 use Rattle.file.proofs.First.{settings-read, bodies-behind, at-lines, lines-tally, points-tally, links-tally, counts-tally, points-in}
-use Rattle.file.proofs.CoordinatesLaws.{and-first, and-second}
-use Rattle.file.specs.Lines.{AtLines, LinesRead, linesFrom}
-use Rattle.file.specs.Links.{AtLinks, edgesFrom}
-use Rattle.file.specs.Fit.{edgesHeld}
-use Rattle.file.proofs.Fit.{links-are}
-use Rattle.file.specs.Reading.{Passed, drawingHeld, noDrawing}
+use Rattle.file_checks.proofs.CoordinatesLaws.{and-first, and-second}
+use Rattle.file_drawing.specs.Lines.{Arrays, arrays, AtLines, LinesRead, linesFrom}
+use Rattle.file_drawing.specs.Links.{AtLinks, edgesFrom}
+use Rattle.file_drawing.specs.Fit.{edgesHeld}
+use Rattle.file_drawing.proofs.Fit.{links-are}
+use Rattle.file.specs.Reading.{Passed, noDrawing}
 
 -- ---- what each test tells
 
@@ -72,6 +72,10 @@ places-as g ls ms a e i h = filled-as mostPoints 0 a (map g (flat ls)) (map g (f
 starts-as : (ls ms : List (List drawn.Point)) (a : List ℕ) → a ≡ sets (replicate (mostLines + 1) 0) 1 (endsFrom 0 ls) → ls ≡ ms → length ms ≤ mostLines → a ≡ padded (mostLines + 1) 0 (0 ∷ endsFrom 0 ms)
 starts-as ls ms a e i h = let m = length-ends 0 ms in filled-as (mostLines + 1) 0 a (0 ∷ endsFrom 0 ls) (0 ∷ endsFrom 0 ms) e (ap (λ (ls : List (List drawn.Point)). 0 ∷ endsFrom 0 ls) i) (omega arith)
 
+-- arrays that hold nothing yet
+abbrev none : Arrays
+none = arrays (replicate (mostLines + 1) 0) (replicate mostPoints 0) (replicate mostPoints 0)
+
 module _ (file : List ℕ) (p : Passed file) (t : Tally) (e : t ≡ tallied (recordsOf file) noTally) where
   pub lines-ready : AtLines file 16 (t .lines)
   unfolding drawingOf
@@ -80,9 +84,9 @@ module _ (file : List ℕ) (p : Passed file) (t : Tally) (e : t ≡ tallied (rec
       let n = lines-tally (recordsOf file) t e in
       at-lines file (p .is-whole) (p .in-order) (p .long) (t .lines) (sym (n ∙ length-map (bodies 2 (recordsOf file)) lineOf)) (rw n (f .0)) (rw (points-in (bodies 2 (recordsOf file))) at (f .1))
 
-  pub links-ready : (r : Lines) → LinesRead file 16 r → AtLinks file (r .end) (t .links)
+  pub links-ready : (a b : Arrays) (end : ℕ) → LinesRead file 16 a b end → AtLinks file end (t .links)
   unfolding drawingOf
-  links-ready r l =
+  links-ready a c end l =
       let f = few-of (drawingOf (recordsOf file)) (p .few) in
       let n = links-tally (recordsOf file) t e in
       let b = bodies-behind file (p .is-whole) (p .in-order) (p .long) 3 (λ q. omega arith) in
@@ -95,23 +99,23 @@ module _ (file : List ℕ) (p : Passed file) (t : Tally) (e : t ≡ tallied (rec
         few-links = rw n (f .2);
       }
 
-  pub drawing-made : (s : Settings) (r : Lines) (edges : List MstEdge) → s ≡ settingsIn (recordRead file 0 .body) → LinesRead file 16 r → edges ≡ sets (replicate mostLinks noEdge) 0 (edgesFrom file (r .end))
+  pub drawing-made : (s : Settings) (r : Arrays) (end : ℕ) (edges : List MstEdge) → s ≡ settingsIn (recordRead file 0 .body) → LinesRead file 16 none r end → edges ≡ sets (replicate mostLinks noEdge) 0 (edgesFrom file end)
       → _≡_ {A = Drawing} (record { settings = s; lines = t .lines; starts = r .starts; points = t .points; xs = r .xs; ys = r .ys; «link_count» = t .links; links = edges }) (drawingHeld (drawingOf (recordsOf file)))
   unfolding drawingHeld drawingOf
-  drawing-made s r edges i l k =
+  drawing-made s r end edges i l k =
       let rs = recordsOf file in
       let d = drawingOf rs in
       let f = few-of d (p .few) in
       let w = p .is-whole in
       let lines-are : linesFrom file 16 ≡ map lineOf (bodies 2 rs) = ap (map lineOf) (sym (bodies-behind file w (p .in-order) (p .long) 2 (λ q. omega arith))) in
-      let links-are : edgesFrom file (r .end) ≡ map edgeFrom (map linkOf (bodies 3 rs)) = ap (λ (bs : List (List ℕ)). map edgeFrom (map linkOf bs)) (l .same-links ∙ sym (bodies-behind file w (p .in-order) (p .long) 3 (λ q. omega arith))) in
+      let links-are : edgesFrom file end ≡ map edgeFrom (map linkOf (bodies 3 rs)) = ap (λ (bs : List (List ℕ)). map edgeFrom (map linkOf bs)) (l .same-links ∙ sym (bodies-behind file w (p .in-order) (p .long) 3 (λ q. omega arith))) in
       let few-e : length (map edgeFrom (map linkOf (bodies 3 rs))) ≤ mostLinks = rw (length-map (map linkOf (bodies 3 rs)) edgeFrom) (f .2) in
       same-drawing s (settingsFrom (d .settings)) (t .lines) (length (d .lines)) (t .points) (length (flat (d .lines))) (t .links) (length (d .links)) (r .starts) (padded (mostLines + 1) 0 (0 ∷ endsFrom 0 (d .lines))) (r .xs) (padded mostPoints 0 (xsOf (flat (d .lines)))) (r .ys) (padded mostPoints 0 (ysOf (flat (d .lines)))) edges (padded mostLinks noEdge (map edgeFrom (d .links)))
       (i ∙ settings-read file w (p .in-order) (p .long)) (lines-tally rs t e) (points-tally rs t e ∙ sym (length-flat (d .lines))) (links-tally rs t e)
       (starts-as (linesFrom file 16) (d .lines) (r .starts) (l .starts-are) lines-are (f .0))
       (places-as (λ (p : drawn.Point). p .x) (linesFrom file 16) (d .lines) (r .xs) (l .xs-are) lines-are (f .1))
       (places-as (λ (p : drawn.Point). p .y) (linesFrom file 16) (d .lines) (r .ys) (l .ys-are) lines-are (f .1))
-      (filled-as mostLinks noEdge edges (edgesFrom file (r .end)) (map edgeFrom (d .links)) k links-are few-e)
+      (filled-as mostLinks noEdge edges (edgesFrom file end) (map edgeFrom (d .links)) k links-are few-e)
 
 -- ---- check 8 on it
 

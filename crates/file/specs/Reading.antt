@@ -1,20 +1,17 @@
 -- What the reader answers to a file: document 01's verdict, and the drawing in flat arrays. Assumes nothing.
-use Prim.Native.Nat.{ℕ, _+_, _-_, _≤_}
+use Prim.Native.Nat.{ℕ, _≤_}
 use mathlib.Core.Path.{_≡_}
-use mathlib.Core.List.{List, [], _∷_, map}
+use mathlib.Core.List.{List, []}
 use mathlib.Core.Bool.{true, false}
 use lib.ListN.{length, take}
-use Rattle.limits.specs.Limits.{mostBytes, mostLines, mostPoints, mostLinks}
+use Rattle.limits.specs.Limits.{mostBytes}
 use Rattle.drawing_spec.specs.Drawing as drawn
 use Rattle.drawing_spec.specs.Refusal as refusal
 use Rattle.drawing_spec.specs.Read.{kindsFit, lengthsFit, settingsFit, countsFit, coordinatesFit, recordsOf, isCut, drawingOf, readConditions}
-use Rattle.file_records.specs.Body.{settingsFrom, edgeFrom}
 use Rattle.file.specs.declared.Verdict.{Verdict}
 use Rattle.file.specs.declared.Verdict.the-variants.{Refused, Accepted}
-use Rattle.file.specs.declared.Drawing.{Drawing}
 use Rattle.file.specs.declared.Reading.{Reading}
-use Rattle.file.specs.Held.{noEdge}
-use Rattle.file.specs.Stores.{padded, flat, xsOf, ysOf, endsFrom}
+use Rattle.file_drawing.specs.Held.{drawingHeld}
 
 -- ---- what is answered
 
@@ -22,19 +19,6 @@ use Rattle.file.specs.Stores.{padded, flat, xsOf, ysOf, endsFrom}
 abbrev pub verdictFrom : refusal.Verdict → Verdict
 verdictFrom (refusal.refused n) = Refused n
 verdictFrom refusal.accepted = Accepted
-
--- a drawing in flat arrays, with zeros behind what they hold
-unfoldable pub drawingHeld : drawn.Drawing → Drawing
-drawingHeld d = record {
-  settings = settingsFrom (d .settings);
-  lines = length (d .lines);
-  starts = padded (mostLines + 1) 0 (0 ∷ endsFrom 0 (d .lines));
-  points = length (flat (d .lines));
-  xs = padded mostPoints 0 (xsOf (flat (d .lines)));
-  ys = padded mostPoints 0 (ysOf (flat (d .lines)));
-  «link_count» = length (d .links);
-  links = padded mostLinks noEdge (map edgeFrom (d .links));
-}
 
 abbrev pub noDrawing : drawn.Drawing
 noDrawing = record { settings = record { width = 0; height = 0; pairing = 0; flags = 0 }; lines = []; links = [] }

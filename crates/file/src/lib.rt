@@ -1,20 +1,17 @@
 // The reader of drawing files: for every slice of bytes the first of checks 1 to 8 that holds, or the drawing.
 //
-// Check 1 is made here and check 2 is `file_records::is_cut`. `heads` has checks 3, 4 and 6, `settings`
-// check 5, `coordinates` check 7 and `links` check 8; `arrays` reads the lines and the links. This file
-// has the types, the checks in their order and what the reader answers.
-mod arrays;
-mod coordinates;
-mod heads;
-mod links;
-mod settings;
-
+// Check 1 is made here, check 2 is `file_records::is_cut`, checks 3 to 7 are in `file_checks`, and check 8 and the arrays
+// in `file_drawing`. This crate has the checks in their order and what the reader answers.
 ghost use mathlib.Core.Path.{_≡_};
-ghost use mathlib.Core.Bool.{_&&_};
 ghost use Rattle.drawing_spec.specs.Read.{recordsOf, drawingOf};
-ghost use Rattle.file.specs.Reading.{firstSeven, Passed, drawingHeld, noDrawing, refusedAs, readingOf};
-use file_records::MstEdge;
-use file_records::Settings;
+ghost use Rattle.file.specs.Reading.{firstSeven, Passed, noDrawing, refusedAs, readingOf};
+ghost use Rattle.file_drawing.specs.Held.{drawingHeld};
+use file_checks::coordinates;
+use file_checks::heads;
+use file_checks::settings;
+use file_drawing::Drawing;
+use file_drawing::arrays;
+use file_drawing::links;
 use limits::MOST_BYTES;
 use limits::MOST_LINES;
 use limits::MOST_LINKS;
@@ -34,59 +31,10 @@ pub enum Verdict {
     Accepted,
 }
 
-// A drawing in flat arrays, each filled up with zeros behind what it holds. Line i's points are those
-// from starts[i] to starts[i + 1], each coordinate by its place on the grid.
-pub struct Drawing {
-    pub settings: Settings,
-    pub lines: usize,
-    pub starts: [u16; MOST_LINES + 1],
-    pub points: usize,
-    pub xs: [u32; MOST_POINTS],
-    pub ys: [u32; MOST_POINTS],
-    pub link_count: usize,
-    pub links: [MstEdge; MOST_LINKS],
-}
-
 // The verdict, and the drawing of an accepted file; of a refused one, a drawing with nothing in it.
 pub struct Reading {
     pub verdict: Verdict,
     pub drawing: Drawing,
-}
-
-// What may come next in a file: its settings; lines or links; links only. `Broken` is a file whose
-// records do not come in that order.
-pub enum Order {
-    Settings,
-    Lines,
-    Links,
-    Broken,
-}
-
-// What the heads of a file's records say: their order, whether each body has the length that its kind
-// asks, and how many lines, points and links there are.
-pub struct Tally {
-    pub order: Order,
-    pub lengths: bool,
-    pub lines: usize,
-    pub points: usize,
-    pub links: usize,
-}
-
-// The lines of a drawing, in flat arrays: line i's points are those from starts[i] to starts[i + 1].
-pub struct Lines {
-    pub starts: [u16; MOST_LINES + 1],
-    pub xs: [u32; MOST_POINTS],
-    pub ys: [u32; MOST_POINTS],
-    pub end: usize,
-}
-
-fn both(a: bool, b: bool) -> bool
-    ensures { λ r. ⌜ r ≡ (a && b) ⌝ }
-{
-    if a {
-        return b;
-    }
-    false
 }
 
 // The first of checks 1 to 7 that holds, and 0 where none does. Each covers the whole file.
@@ -160,11 +108,11 @@ fn drawing_of(file: &[u8]) -> Drawing
 {
     let t = heads::tally_of(file);
     let settings = settings::settings_of(file, 0);
-    let lines = arrays::read_lines(file, 16, t.lines);
-    let links = arrays::read_links(file, lines.end, t.links);
-    let starts = lines.starts;
-    let xs = lines.xs;
-    let ys = lines.ys;
+    let mut starts = [0u16; MOST_LINES + 1];
+    let mut xs = [0u32; MOST_POINTS];
+    let mut ys = [0u32; MOST_POINTS];
+    let end = arrays::fill_lines(file, 16, t.lines, &mut starts, &mut xs, &mut ys);
+    let links = arrays::read_links(file, end, t.links);
     Drawing {
         settings,
         lines: t.lines,

@@ -1,6 +1,6 @@
 // Replays tools/reader_cases.py's drawing files against the reader, and prints how many there were and
 // how many came out otherwise: another verdict, another value anywhere in the drawing.
-use file::Drawing;
+use file_drawing::Drawing;
 use file::Verdict;
 use file_records::MstEdge;
 use file_records::Point;

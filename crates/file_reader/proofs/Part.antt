@@ -8,7 +8,7 @@ use lib.ListN.{length, take, drop}
 use borrow.Author.Tests.{leb-true, le-leb}
 use Rattle.file_records.specs.Walk.{sizeAt, bodyAt, nextAt}
 use Rattle.file_records.specs.Body.{wholeAt}
-use Rattle.file_reader.specs.Part.{bodyPart, nextPlace}
+use Rattle.file_reader.specs.Part.{bodyPart}
 
 -- ---- what a test for a whole record tells. Assumes nothing.
 
@@ -25,14 +25,6 @@ module _ (file : List ℕ) (at : ℕ) (t : Bool) (w : t ≡ wholeAt file at) whe
   pub part-none : t ≡ false → [] ≡ bodyPart file at
   unfolding bodyPart
   part-none e = rw (sym w ∙ e)
-
-  pub next-whole : (n : ℕ) → t ≡ true → n ≡ sizeAt file at → at + (6 + n) ≡ nextPlace file at
-  unfolding nextPlace
-  next-whole n e i = rw (sym w ∙ e, i)
-
-  pub next-none : t ≡ false → length file ≡ nextPlace file at
-  unfolding nextPlace
-  next-none e = rw (sym w ∙ e)
 
 -- of a record that stands whole, the part is its body
 pub part-is : (file : List ℕ) (at : ℕ) → nextAt file at ≤ length file → bodyPart file at ≡ bodyAt file at

@@ -1,13 +1,9 @@
--- The body of a record as a part of the file, and the place behind it.
+-- The body of a record as a part of the file.
 use Prim.Native.Nat.{ℕ}
 use mathlib.Core.List.{List, []}
 use mathlib.Core.Bool.{cond}
-use lib.ListN.{length}
-use Rattle.file_records.specs.Walk.{bodyAt, nextAt}
+use Rattle.file_records.specs.Walk.{bodyAt}
 use Rattle.file_records.specs.Body.{wholeAt}
 
 unfoldable pub bodyPart : List ℕ → ℕ → List ℕ
 bodyPart file at = cond (wholeAt file at) (bodyAt file at) []
-
-unfoldable pub nextPlace : List ℕ → ℕ → ℕ
-nextPlace file at = cond (wholeAt file at) (nextAt file at) (length file)

@@ -1,6 +1,6 @@
 -- The values that the code makes are those of `Body`. Assumes nothing.
 use Prim.Native.Nat.{ℕ, _+_, _/_, _%_}
-use mathlib.Core.Path.{_≡_, sym, ap, _∙_}
+use mathlib.Core.Path.{_≡_, refl, sym, ap, _∙_}
 use mathlib.Core.List.{List}
 use mathlib.Core.Bool.{Bool, true, false}
 use lib.ListN.{drop}
@@ -59,9 +59,9 @@ module _ (file : List ℕ) (at k n : ℕ) (K : k ≡ kindAt file at) (N : n ≡ 
   unfolding bodyRead
   no-settings e l = rw (is 1 e, short 10 l)
 
-  pub body-line : (k ≡ 1 → ⊥) → k ≡ 2 → n % 16 ≡ 0 → body.Line (record { start = at + 6; points = n / 16 }) ≡ bodyRead file at
+  pub body-line : (k ≡ 1 → ⊥) → k ≡ 2 → n % 16 ≡ 0 → body.Line (n / 16) ≡ bodyRead file at
   unfolding bodyRead
-  body-line d e l = rw (other 1 d, is 2 e, eq-eqb (sizeAt file at % 16) 0 (ap (λ (m : ℕ). m % 16) (sym N) ∙ l)) (ap (λ (m : ℕ). body.Line (record { start = at + 6; points = m / 16 })) N)
+  body-line d e l = rw (other 1 d, is 2 e, eq-eqb (sizeAt file at % 16) 0 (ap (λ (m : ℕ). m % 16) (sym N) ∙ l)) (ap (λ (m : ℕ). body.Line (m / 16)) N)
 
   pub no-line : (k ≡ 1 → ⊥) → k ≡ 2 → (n % 16 ≡ 0 → ⊥) → body.Other ≡ bodyRead file at
   unfolding bodyRead
@@ -80,6 +80,10 @@ module _ (file : List ℕ) (at k n : ℕ) (K : k ≡ kindAt file at) (N : n ≡ 
   pub no-kind : (k ≡ 1 → ⊥) → (k ≡ 2 → ⊥) → (k ≡ 3 → ⊥) → body.Other ≡ bodyRead file at
   unfolding bodyRead
   no-kind d d' e = rw (other 1 d, other 2 d', other 3 e)
+
+pub record-place : (file : List ℕ) (at : ℕ) → recordRead file at .at ≡ at
+unfolding recordRead
+record-place file at = refl
 
 module _ (file : List ℕ) (at : ℕ) (t : Bool) (W : t ≡ wholeAt file at) where
   pub record-whole : (b : Body) → t ≡ true → b ≡ bodyRead file at → _≡_ {A = Record} (record { at = at; body = b }) (recordRead file at)

@@ -36,7 +36,7 @@ edgeFrom l = record {
 unfoldable pub bodyRead : List ℕ → ℕ → Body
 bodyRead file at =
     cond (eqb (kindAt file at) 1) (cond (eqb (sizeAt file at) 10) (body.Settings (settingsFrom (settingsOf (bodyAt file at)))) body.Other)
-    (cond (eqb (kindAt file at) 2) (cond (eqb (sizeAt file at % 16) 0) (body.Line (record { start = at + 6; points = sizeAt file at / 16 })) body.Other)
+    (cond (eqb (kindAt file at) 2) (cond (eqb (sizeAt file at % 16) 0) (body.Line (sizeAt file at / 16)) body.Other)
     (cond (eqb (kindAt file at) 3) (cond (eqb (sizeAt file at) 40) (body.Link (edgeFrom (linkOf (bodyAt file at)))) body.Other) body.Other))
 
 -- whether a record stands whole at a place

@@ -3,7 +3,6 @@
 ghost use mathlib.Core.Path.{_≡_};
 ghost use Prim.Native.Nat.{_+_, _≤_, _<_};
 ghost use lib.ListN.{length, drop};
-ghost use Rattle.limits.specs.Limits.{mostLines};
 ghost use Rattle.grid.specs.Grid.{readPlace};
 ghost use Rattle.drawing_spec.specs.Bytes.{number};
 ghost use Rattle.drawing_spec.specs.Read.{isCut, placeAt, onGrid, settingsOf, linkOf, point};
@@ -34,17 +33,11 @@ pub struct Settings {
     pub flags: u8,
 }
 
-// A line's points: where the first one starts in the file, and how many there are.
-pub struct Span {
-    pub start: usize,
-    pub points: usize,
-}
-
-// What a record's body holds. `Other` is a record that document 01 does not have: it passes the end of
+// What a record's body holds; of a line, how many points. `Other` is a record that document 01 does not have: it passes the end of
 // the file, or its kind or its length is none of the three.
 pub enum Body {
     Settings(Settings),
-    Line(Span),
+    Line(usize),
     Link(MstEdge),
     Other,
 }
@@ -56,7 +49,7 @@ pub struct Record {
 }
 
 fn wide(byte: u8) -> u16
-    ensures { λ r. ⌜ (r ≡ byte) × (r < mostLines) ⌝ }
+    ensures { λ r. ⌜ (r ≡ byte) × (r < 256) ⌝ }
 {
     byte as u16
 }
@@ -231,10 +224,7 @@ fn body_at(file: &[u8], at: usize) -> Body
     }
     if kind == 2 {
         if size % 16 == 0 {
-            return Body::Line(Span {
-                start,
-                points: size / 16,
-            });
+            return Body::Line(size / 16);
         }
         return Body::Other;
     }

@@ -12,10 +12,10 @@ use Rattle.graph_nodes.specs.Table.{Table, noNodes}
 use Rattle.graph_adjacency.specs.Lists.{Adjacency, noEdges}
 use Rattle.file_records.specs.declared.MstEdge.{MstEdge}
 use Rattle.file_records.specs.Body.{edgeFrom}
-use Rattle.file.specs.declared.Drawing.{Drawing}
-use Rattle.file.specs.Held.{noEdge}
-use Rattle.file.specs.Reading.{drawingHeld}
-use Rattle.file.specs.Back.{drawingFrom}
+use Rattle.file_drawing.specs.declared.Drawing.{Drawing}
+use Rattle.file_drawing.specs.Held.{noEdge}
+use Rattle.file_drawing.specs.Held.{drawingHeld}
+use Rattle.file_drawing.specs.Back.{drawingFrom}
 use Rattle.graph_moves.specs.Moves.{Move}
 use Rattle.graph_strokes.specs.Step.{Traced, traced}
 use Rattle.graph_chain.specs.Along.{tracedAlong}

@@ -11,10 +11,11 @@ use Rattle.drawing_spec.specs.Read.{linksFit, recordsOf, drawingOf}
 use Rattle.drawing_spec.specs.Accepted.{Counts}
 use Rattle.drawing_spec.proofs.Accepted.{counts-fit}
 use Rattle.file.specs.declared.Verdict.the-variants.{Accepted}
-use Rattle.file.specs.Reading.{drawingHeld, readingOf}
+use Rattle.file_drawing.specs.Held.{drawingHeld}
+use Rattle.file.specs.Reading.{readingOf}
 use Rattle.file.proofs.ReadingLaws.{taken}
-use Rattle.file.specs.Back.{drawingFrom}
-use Rattle.file.proofs.Back.{accepted-drawing}
+use Rattle.file_drawing.specs.Back.{drawingFrom}
+use Rattle.file.proofs.ReadingLaws.{accepted-drawing}
 use Rattle.graph.specs.Sound.{Sound}
 
 pub accepted-sound : (file : List ℕ) → readingOf file .verdict ≡ Accepted → Sound (readingOf file .drawing)

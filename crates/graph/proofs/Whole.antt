@@ -19,7 +19,7 @@ use Rattle.graph_segment_ends.proofs.Ends.{Below}
 use Rattle.graph_segment_ends.proofs.Splits.{endsOf}
 use Rattle.graph_nodes.specs.Table.{noNodes}
 use Rattle.graph_adjacency.specs.Lists.{noEdges}
-use Rattle.file.specs.Stores.{flat, xsOf, ysOf, endsFrom}
+use Rattle.file_drawing.specs.Stores.{flat, xsOf, ysOf, endsFrom}
 use Rattle.graph_moves.specs.Moves.{Move, along}
 use Rattle.graph_moves.proofs.Moves.{endOf, noGraph, linesMoves, linkMoves, movesOf}
 use Rattle.graph_moves.proofs.Built.{uses-of, stands-of, build-along}

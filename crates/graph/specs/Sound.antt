@@ -7,9 +7,9 @@ use Rattle.drawing_spec.specs.OnGrid.{OnGrid, AtEnds}
 use Rattle.drawing_spec.proofs.OnGrid.{lines-on, links-on}
 use Rattle.drawing_spec.specs.Read.{linksFit}
 use Rattle.drawing_spec.specs.Accepted.{Counts}
-use Rattle.file.specs.declared.Drawing.{Drawing}
-use Rattle.file.specs.Reading.{drawingHeld}
-use Rattle.file.specs.Back.{drawingFrom}
+use Rattle.file_drawing.specs.declared.Drawing.{Drawing}
+use Rattle.file_drawing.specs.Held.{drawingHeld}
+use Rattle.file_drawing.specs.Back.{drawingFrom}
 
 pub record Sound (d : Drawing) : Type 0 where
   pub held : d ≡ drawingHeld (drawingFrom d)

@@ -11,7 +11,7 @@ use Rattle.graph_spec.specs.Chain.{inner, changes}
 use Rattle.graph_splits.specs.Buffer.{pick}
 use Rattle.graph_splits.specs.Next.{at, keeps, nextSplit}
 use Rattle.graph_splits.proofs.Next.{stay, gone}
-use Rattle.file.specs.Back.{pointsBack}
+use Rattle.file_drawing.specs.Back.{pointsBack}
 use Rattle.graph_chain.specs.Kept.{keptFrom}
 
 module _ (xs ys : List ℕ) (a b l : Point) where

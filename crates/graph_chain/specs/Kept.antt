@@ -3,7 +3,7 @@ use mathlib.Core.List.{List, [], _∷_, _++_}
 use Prim.Native.Nat.{ℕ, _+_}
 use Rattle.drawing_spec.specs.Drawing.{Point}
 use Rattle.graph_spec.specs.Chain.{inner, changes}
-use Rattle.file.specs.Back.{pointsBack}
+use Rattle.file_drawing.specs.Back.{pointsBack}
 
 -- the points that stay, of n from place i on, on the segment from a to b where l stayed before
 abbrev pub keptFrom : List ℕ → List ℕ → Point → Point → Point → ℕ → ℕ → List Point

@@ -19,10 +19,10 @@ use Rattle.graph_segment_ends.specs.Gather.{Keyed, keyed}
 use Rattle.graph_segment_ends.proofs.Splits.{endsOf}
 use Rattle.file_records.specs.declared.MstEdge.{MstEdge}
 use Rattle.file_records.specs.Body.{pointFrom, edgeFrom}
-use Rattle.file.specs.Held.{pastEnd}
-use Rattle.file.specs.Stores.{padded}
-use Rattle.file.proofs.Stores.{sets-padded}
-use Rattle.file.specs.Back.{pointBack}
+use Rattle.file_drawing.specs.Held.{pastEnd}
+use Rattle.file_drawing.specs.Stores.{padded}
+use Rattle.file_drawing.proofs.Stores.{sets-padded}
+use Rattle.file_drawing.specs.Back.{pointBack}
 use Rattle.graph_line.specs.Lines.{Points, pointIn, Filing, filing}
 use Rattle.graph_filing.proofs.Floats.{place-back}
 use Rattle.graph_filing.specs.Stored.{Store, store, withFiled, storeEnd, storeLink, storeLinks, placeIn}

@@ -14,8 +14,8 @@ use Rattle.graph_spec.specs.Chain.{chain}
 use Rattle.graph_splits.specs.Next.{at}
 use Rattle.graph_segment_ends.specs.Gather.{Keyed, pointOf}
 use Rattle.graph_segment_ends.proofs.Splits.{endsOf}
-use Rattle.file.specs.Stores.{flat, xsOf, ysOf, endsFrom}
-use Rattle.file.specs.Back.{pointsBack}
+use Rattle.file_drawing.specs.Stores.{flat, xsOf, ysOf, endsFrom}
+use Rattle.file_drawing.specs.Back.{pointsBack}
 use Rattle.graph_moves.specs.Moves.{Move, start, on, drawAll, lineMoves}
 use Rattle.graph_moves.proofs.Moves.{linesMoves, linkMoves}
 use Rattle.graph_line.specs.Lines.{Filing, points, pointIn, chainsOf, segmentsFrom, lineIn}

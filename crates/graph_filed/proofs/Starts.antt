@@ -20,8 +20,8 @@ use Rattle.graph_segment_ends.proofs.Ends.{Below}
 use Rattle.graph_segment_ends.proofs.Splits.{endsOf}
 use Rattle.file_records.specs.declared.MstEdge.{MstEdge}
 use Rattle.file_records.specs.Body.{edgeFrom}
-use Rattle.file.specs.Held.{pastEnd}
-use Rattle.file.specs.Stores.{padded, flat, xsOf, ysOf, endsFrom}
+use Rattle.file_drawing.specs.Held.{pastEnd}
+use Rattle.file_drawing.specs.Stores.{padded, flat, xsOf, ysOf, endsFrom}
 use Rattle.graph_line.specs.Lines.{Points, points}
 use Rattle.graph_lines.specs.All.{StartsInside}
 use Rattle.graph_filing.specs.Stored.{LowPoints, EndFits, LinkFits, LinksFit}

@@ -8,8 +8,8 @@ use Rattle.graph_spec.specs.Chain.{squared}
 use Rattle.graph_segment_ends.specs.Ends.{Filed, filed, fileEnd}
 use Rattle.file_records.specs.declared.Point as records
 use Rattle.file_records.specs.declared.MstEdge.{MstEdge}
-use Rattle.file.specs.Held.{pastEnd}
-use Rattle.file.specs.Back.{pointBack}
+use Rattle.file_drawing.specs.Held.{pastEnd}
+use Rattle.file_drawing.specs.Back.{pointBack}
 use Rattle.graph_chain.specs.Along.{Low}
 use Rattle.graph_line.specs.Lines.{Points, pointIn}
 use Rattle.graph_filing.specs.Floats.{OnFloat}

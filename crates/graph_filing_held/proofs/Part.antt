@@ -6,7 +6,7 @@ use native.Mathlib.Nat.{not-suc-le-zero, le-of-suc-le-suc}
 use native.Mathlib.Omega.{arith}
 use lib.ListN.{length, getD, take, length-take}
 use Rattle.file_records.specs.declared.MstEdge.{MstEdge}
-use Rattle.file.specs.Held.{pastEnd}
+use Rattle.file_drawing.specs.Held.{pastEnd}
 use Rattle.graph_line.specs.Lines.{Points}
 use Rattle.graph_filing.specs.Stored.{Store, storeLink, storeLinks, LinkFits, LinksFit}
 

@@ -17,7 +17,7 @@ use Rattle.graph_splits.specs.Next.{at}
 use Rattle.graph_segment_ends.specs.Ends.{endRoom}
 use Rattle.graph_segment_ends.specs.Gather.{Gathered, gatheredAs, Keyed, gathered, pointOf, insertAll, KeyedFrom}
 use Rattle.graph_segment_ends.proofs.GatherLaws.{gather-none, gather-end, gather-step}
-use Rattle.file.specs.Back.{pointsBack}
+use Rattle.file_drawing.specs.Back.{pointsBack}
 use Rattle.graph_moves.specs.Moves.{drawAll}
 use Rattle.graph_strokes.specs.Step.{Traced}
 use Rattle.graph_chain.specs.Along.{tracedAlong, Traceable}

@@ -10,7 +10,7 @@ use lib.Dec.{ltb}
 use borrow.Author.Tests.{lt-ltb, le-ltb}
 use Rattle.drawing_spec.specs.Drawing.{Point}
 use Rattle.graph_spec.specs.Chain.{inner, changes}
-use Rattle.file.specs.Back.{pointsBack}
+use Rattle.file_drawing.specs.Back.{pointsBack}
 use Rattle.graph_moves.specs.Moves.{Move, start, on, drawAll, lineMoves}
 use Rattle.graph_moves.proofs.Moves.{endOf}
 use Rattle.graph_moves.proofs.Built.{end-draw}

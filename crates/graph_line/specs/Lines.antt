@@ -8,7 +8,7 @@ use Rattle.limits.specs.Limits.{mostPoints}
 use Rattle.drawing_spec.specs.Drawing.{Point}
 use Rattle.graph_splits.specs.Next.{at}
 use Rattle.graph_segment_ends.specs.Gather.{Keyed}
-use Rattle.file.specs.Back.{pointsBack}
+use Rattle.file_drawing.specs.Back.{pointsBack}
 use Rattle.graph_moves.specs.Moves.{Move, start, lineMoves}
 use Rattle.graph_strokes.specs.Step.{Traced}
 use Rattle.graph_chain.specs.Along.{Traceable}

@@ -14,14 +14,14 @@ use Rattle.drawing_spec.specs.Read.{settingsFit, readConditions}
 use Rattle.graph_spec.specs.Graph.{Graph, buildGraph}
 use Rattle.graph_adjacency.specs.Lists.{Adjacency}
 use Rattle.graph_arrays.specs.Arrays.{graphIn}
-use Rattle.file.specs.declared.Drawing.{Drawing}
+use Rattle.file_drawing.specs.declared.Drawing.{Drawing}
 use Rattle.file.specs.declared.Reading.{Reading}
 use Rattle.file.specs.declared.Verdict.the-variants.{Accepted, Refused}
 use Rattle.file_records.specs.Meaning.{settingsOf}
 use Rattle.file.specs.Reading.{verdictFrom, readingOf}
 use Rattle.file.proofs.ReadingLaws.{taken}
-use Rattle.file.specs.Back.{drawingFrom}
-use Rattle.file.proofs.Back.{accepted-drawing}
+use Rattle.file_drawing.specs.Back.{drawingFrom}
+use Rattle.file.proofs.ReadingLaws.{accepted-drawing}
 use Rattle.graph.specs.Built.{Built}
 use Rattle.graph.specs.Sound.{Sound}
 use Rattle.graph.proofs.Sound.{accepted-sound}

@@ -1,4 +1,4 @@
--- `reader::first_refusal` meets its contract: each return is the law for the checks that passed before it. Assumes nothing.
+-- `file::first_refusal` meets its contract: each return is the law for the checks that passed before it. Assumes nothing.
 use mathlib.Core.Path.{_≡_, sym, _∙_}
 use mathlib.Core.Bool.{true, false}
 use borrow.Author.Tests.{not-true, not-false}

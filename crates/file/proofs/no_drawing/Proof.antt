@@ -1,4 +1,4 @@
--- `reader::no_drawing` meets its contract. Assumes nothing.
+-- `file::no_drawing` meets its contract. Assumes nothing.
 use mathlib.Core.Path.{_≡_}
 use Rattle.file_records.specs.declared.Settings.{Settings}
 use Rattle.file.proofs.Whole.{empty-made}

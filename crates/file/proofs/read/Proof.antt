@@ -1,4 +1,4 @@
--- `reader::read` meets its contract. Assumes nothing.
+-- `file::read` meets its contract. Assumes nothing.
 use mathlib.Core.Path.{sym, _∙_}
 use mathlib.Core.Bool.{true, false}
 use borrow.Author.Tests.{not-true, not-false}

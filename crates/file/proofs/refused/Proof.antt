@@ -1,6 +1,6 @@
--- `reader::refused` meets its contract. Assumes nothing.
+-- `file::refused` meets its contract. Assumes nothing.
 use mathlib.Core.Path.{ap}
-use Rattle.file.specs.declared.Drawing.{Drawing}
+use Rattle.file_drawing.specs.declared.Drawing.{Drawing}
 use Rattle.file.specs.declared.Verdict.the-variants.{Refused}
 use borrow.Author.Needs.{needs}
 use Rattle.file.proofs.refused.Statement.{statement}

@@ -1,4 +1,4 @@
--- `record_reader::body` meets its contract: a walk of its MIR, by hand. The struct is taken apart, and `body_part` is called on the slice and the number; the part that it hands back is the result. All that the proof knows of `body_part` is that it meets its contract.
+-- `file_reader::body` meets its contract: a walk of its MIR, by hand. The struct is taken apart, and `body_part` is called on the slice and the number; the part that it hands back is the result. All that the proof knows of `body_part` is that it meets its contract.
 -- The struct is Copy: what it owns is had twice, one copy is kept whole for the exit, and of the other what file owns goes to the callee, beside the lifetime's token, which comes back.
 -- Assumes nothing.
 use mathlib.Core.Path.{_≡_, refl}

@@ -1,4 +1,4 @@
--- `record_reader::body_of` meets its contract: a walk of its MIR, by hand. A `RecordReader` is made of the slice and the place in a local and passed to `body`, and the part that it hands back is the result. All that the proof knows of `body` is that it meets its contract.
+-- `file_reader::body_of` meets its contract: a walk of its MIR, by hand. A `RecordReader` is made of the slice and the place in a local and passed to `body`, and the part that it hands back is the result. All that the proof knows of `body` is that it meets its contract.
 -- A `&[u8]` is Copy, so what it owns is had twice: once for file at exit, and once inside the struct, beside the facts of at.
 -- Assumes nothing.
 use mathlib.Core.Path.{_≡_, refl}

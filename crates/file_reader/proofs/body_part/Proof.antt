@@ -1,4 +1,4 @@
--- `record_reader::body_part` meets its contract. Assumes nothing.
+-- `file_reader::body_part` meets its contract. Assumes nothing.
 use native.Mathlib.Omega.{arith}
 use Rattle.file_reader.proofs.Part.{within, part-whole, part-none}
 use borrow.Author.Needs.{needs}

@@ -1,4 +1,4 @@
--- `records::body_at` meets its contract: each return is the law for the tests that lead there. Assumes nothing.
+-- `file_records::body_at` meets its contract: each return is the law for the tests that lead there. Assumes nothing.
 use Rattle.file_records.proofs.Made.{body-settings, no-settings, body-line, no-line, body-link, no-link, no-kind}
 use borrow.Author.Needs.{needs}
 use Rattle.file_records.proofs.body_at.Statement.{statement}

@@ -1,4 +1,4 @@
--- `records::edge_at` meets its contract. Assumes nothing.
+-- `file_records::edge_at` meets its contract. Assumes nothing.
 use Rattle.file_records.proofs.Made.{edge-made}
 use borrow.Author.Needs.{needs}
 use Rattle.file_records.proofs.edge_at.Statement.{statement}

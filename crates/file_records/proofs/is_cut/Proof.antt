@@ -1,4 +1,4 @@
--- `records::is_cut` meets its contract. The invariant: from here on a record passes the end exactly if one of the file does. Assumes nothing.
+-- `file_records::is_cut` meets its contract. The invariant: from here on a record passes the end exactly if one of the file does. Assumes nothing.
 use mathlib.Core.Path.{_≡_, refl, sym, ap, _∙_}
 use Prim.Native.Nat.{ℕ, _≤_, _+_, _-_}
 use native.Mathlib.Omega.{arith}

@@ -1,4 +1,4 @@
--- `records::kind_at` meets its contract: the kind is the number in two bytes behind the length. Assumes nothing.
+-- `file_records::kind_at` meets its contract: the kind is the number in two bytes behind the length. Assumes nothing.
 use borrow.Author.Needs.{needs}
 use Rattle.file_records.proofs.kind_at.Statement.{statement}
 use Rattle.file_records.proofs.kind_at.Tie as tie

@@ -1,4 +1,4 @@
--- `records::number1` meets its contract. Assumes nothing.
+-- `file_records::number1` meets its contract. Assumes nothing.
 use mathlib.Core.Path.{sym}
 use Rattle.file_records.proofs.Numbers.{number-one}
 use borrow.Author.Needs.{needs}

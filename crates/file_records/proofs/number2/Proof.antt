@@ -1,4 +1,4 @@
--- `records::number2` meets its contract: its two bytes. Assumes nothing.
+-- `file_records::number2` meets its contract: its two bytes. Assumes nothing.
 use native.Mathlib.Omega.{arith}
 use Rattle.file_records.proofs.Numbers.{number-two}
 use borrow.Author.Needs.{needs}

@@ -1,4 +1,4 @@
--- `records::number4` meets its contract: its two halves. Assumes nothing.
+-- `file_records::number4` meets its contract: its two halves. Assumes nothing.
 use native.Mathlib.Omega.{arith}
 use Rattle.file_records.proofs.Numbers.{number-parts-at}
 use borrow.Author.Needs.{needs}

@@ -1,4 +1,4 @@
--- `records::on_grid` meets its contract. Assumes nothing.
+-- `file_records::on_grid` meets its contract. Assumes nothing.
 use mathlib.Core.Path.{sym, ap, _∙_}
 use Rattle.grid.specs.Grid.{readPlace}
 use Rattle.drawing_spec.specs.Read.{onGrid}

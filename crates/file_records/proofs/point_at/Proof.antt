@@ -1,4 +1,4 @@
--- `records::point_at` meets its contract. Assumes nothing.
+-- `file_records::point_at` meets its contract. Assumes nothing.
 use Rattle.file_records.proofs.Made.{point-made}
 use borrow.Author.Needs.{needs}
 use Rattle.file_records.proofs.point_at.Statement.{statement}

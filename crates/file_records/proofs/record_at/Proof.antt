@@ -1,4 +1,4 @@
--- `records::record_at` meets its contract. Assumes nothing.
+-- `file_records::record_at` meets its contract. Assumes nothing.
 use mathlib.Core.Path.{sym, _∙_}
 use lib.ListN.{length}
 use borrow.Author.Tests.{leb-true}

@@ -1,4 +1,4 @@
--- `records::settings_at` meets its contract. Assumes nothing.
+-- `file_records::settings_at` meets its contract. Assumes nothing.
 use Rattle.file_records.proofs.Made.{settings-made}
 use borrow.Author.Needs.{needs}
 use Rattle.file_records.proofs.settings_at.Statement.{statement}

@@ -1,4 +1,4 @@
--- `records::whole_at` meets its contract: what it tests is where the next record would start. Assumes nothing.
+-- `file_records::whole_at` meets its contract: what it tests is where the next record would start. Assumes nothing.
 use mathlib.Core.Path.{sym}
 use native.Mathlib.Omega.{arith}
 use lib.ListN.{length}

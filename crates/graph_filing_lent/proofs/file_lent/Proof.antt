@@ -48,7 +48,7 @@ use denote.Triple.Table.{entered, cited}
 use denote.Triple.Walked.{needs, Walks, goes-ref, goes-none-ref, goes-none-slice, walked, walk-meets}
 use denote.Exit.{yes}
 use Rattle.graph_line.specs.Lines.{points}
-use Rattle.file.specs.Held.{pastEnd}
+use Rattle.file_drawing.specs.Held.{pastEnd}
 use Rattle.graph_filing.specs.Stored.{Store, storeLink, storeLinks, LinksFit, LowPoints}
 use Rattle.graph_filing.proofs.Stored.{links-start, links-turn, links-done}
 use Rattle.file_records.specs.declared.MstEdge.{MstEdge}
