@@ -8,6 +8,7 @@ pub mod Matched
 pub mod Nearest
 pub mod Pairing
 pub mod Pairs
+pub mod PairsIn
 pub mod Relax
 pub mod Repair
 pub mod Repaired
