@@ -1,4 +1,4 @@
--- Laws of specs/Arcs.
+-- Looking along a node's arcs in the order of its list does what a round of the search has to do.
 use mathlib.Core.Path.{_≡_, refl, sym, ap, subst, _∙_}
 use mathlib.Core.Logic.{_⊎_, inl, inr, _↔_}
 use mathlib.Core.List.{List, [], _∷_}
@@ -13,7 +13,7 @@ use Rattle.graph_spec.proofs.EdgesAt.{edgeAt, number-of, edgesAt-all, edgesAt-a
 use Rattle.graph_spec.specs.Weights.{Weights}
 use Rattle.repair_spec.specs.Relax.{AllNonneg}
 use Rattle.repair_spec.proofs.Relax.{Improved, Next, kept, still-nonneg, offers-iff, and-then, improve-is}
-use Rattle.repair_search.specs.Arcs.{relaxArcs}
+use Rattle.repair_search.specs.Relaxing.{relaxArcs}
 
 -- a cost for x by one of the arcs
 abbrev ByArc : Float → List Arc → ℕ → Float → Type 0

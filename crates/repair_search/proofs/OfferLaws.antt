@@ -10,6 +10,7 @@ use native.Mathlib.Omega.{arith}
 use lib.ListN.{length, getD, set, length-set}
 use lib.Seq.{getD-set-same, getD-set-other}
 use lib.Ieee.{Float, nan, binary64, lt}
+use Rattle.limits.specs.Limits.{mostNodes}
 use Rattle.sums.specs.Key.{Nonneg}
 use Rattle.repair_tournament.specs.Tree.{Stored}
 use Rattle.repair_spec.specs.Distance.{infinity, distanceAt, improve}
@@ -38,7 +39,7 @@ improve-not : (ds : List Float) (v : ℕ) (c : Float) → lt c (distanceAt ds v)
 unfolding improve
 improve-not ds v c h = ap (λ (b : Bool). elim b [ true ↦ set ds v c | false ↦ ds ]) h
 
-module _ (n v : ℕ) (c : Float) (ds t : List Float) (few : n ≤ 1534) (isNode : v < n) (H : Held n ds t) where
+module _ (n v : ℕ) (c : Float) (ds t : List Float) (few : n ≤ mostNodes) (isNode : v < n) (H : Held n ds t) where
   room : v < length ds
   room = omega (arith, H .long)
 

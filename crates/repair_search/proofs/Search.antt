@@ -1,15 +1,16 @@
 -- Laws of specs/Search.
 use mathlib.Core.Path.{_≡_, refl, sym, ap, subst, _∙_}
 use mathlib.Core.Logic.{_⊎_, inl, inr}
-use mathlib.Core.List.{List, [], _∷_}
+use mathlib.Core.List.{List}
 use mathlib.Core.Bool.{Bool, true, false, true≢false, false≢true}
-use Prim.Native.Nat.{ℕ, suc, _+_, _-_, _≤_, _<_}
+use Prim.Native.Nat.{ℕ, suc, _+_, _-_, _*_, _≤_, _<_}
 use native.Mathlib.Nat.{le-refl, le-trans, le-of-eq, le-of-lt, le-antisymm, not-le-of-lt, lt-of-not-le}
 use native.Mathlib.Decide.{decLe}
 use native.Mathlib.Omega.{arith}
 use lib.ListN.{getD, set, replicate, length-set, length-replicate, getD-replicate, List·getD-eq-default}
 use lib.Seq.{getD-set-same, getD-set-other}
 use lib.Ieee.{Float, nan, binary64, lt}
+use Rattle.limits.specs.Limits.{mostNodes}
 use Rattle.sums.specs.Key.{Nonneg, key}
 use Rattle.sums.proofs.KeyLaws.{key-top}
 use Rattle.sums.proofs.Sum.{zero-nonneg, inf-nonneg}
@@ -17,10 +18,9 @@ use Rattle.drawing_spec.proofs.Members.{getD-same, set-cases}
 use Rattle.graph_spec.specs.Graph.{Edge, edgesAt}
 use Rattle.graph_spec.specs.Ways.{Inside}
 use Rattle.graph_spec.proofs.Connected.{joins-inside}
-use Rattle.graph_spec.proofs.EdgesAt.{arc-joins}
-use Rattle.graph_adjacency.specs.Lists.{Adjacency, firstArc}
-use Rattle.graph_adjacency.specs.Follow.{Ends, Follows}
-use Rattle.graph_adjacency.proofs.Follow.{lists-follow}
+use Rattle.graph_spec.specs.Weights.{Weights}
+use Rattle.graph_adjacency.specs.Lists.{Adjacency}
+use Rattle.graph_arrays.specs.Arrays.{edgesIn, EdgesHeld}
 use Rattle.repair_tournament.specs.Tree.{at, value, Tree, Stored}
 use Rattle.repair_tournament.proofs.Tree.{least, tree-none}
 use Rattle.repair_spec.specs.Distance.{infinity, zeroLength, distanceAt, distances}
@@ -34,26 +34,21 @@ use Rattle.repair_spec.proofs.Rounds.{top, Chosen, Run, begin, round, Invariant
 use Rattle.repair_spec.proofs.Least.{least-distance}
 use Rattle.repair_search.proofs.Arcs.{relaxed}
 use Rattle.repair_search.specs.Offer.{Held}
-use Rattle.repair_search.specs.Relaxing.{Fit, ArcsOf, Relaxed}
-use Rattle.repair_search.specs.Search.{Found, GraphOf}
+use Rattle.repair_search.specs.Relaxing.{Relaxed}
+use Rattle.repair_search.specs.Search.{Found}
 
 -- a node that is not done has its distance as its value, one that is done has none
 abbrev pub Queue : ℕ → List Bool → List Float → List Float → Type 0
 Queue n done ds t = (w : ℕ) → w < n → (Open done w → value n t w ≡ distanceAt ds w) × (Done done w → value n t w ≡ infinity)
 
--- a run of some rounds, of at most 1534, of which `left` are left
+-- a run of some rounds, of at most mostNodes, of which `left` are left
 pub record Searching (n : ℕ) (es : List Edge) (s left : ℕ) (ds t : List Float) : Type 0 where
   pub done : List Bool
-  pub run : Run 1534 es s (1534 - left) ds done
+  pub run : Run mostNodes es s (mostNodes - left) ds done
   pub queue : Queue n done ds t
 
-inside-room : (n : ℕ) (es : List Edge) → n ≤ 1534 → Inside n es → Inside 1534 es
+inside-room : (n : ℕ) (es : List Edge) → n ≤ mostNodes → Inside n es → Inside mostNodes es
 inside-room n es few i e h = let p = i e h in (omega (arith, p .0), omega (arith, p .1))
-
-ends-of : (es : List Edge) → Inside 1534 es → Ends es
-unfolding Ends
-ends-of [] i = tt
-ends-of (e ∷ es) i = let p = i e (inl refl) in (p .0, p .1, ends-of es (λ f h. i f (inr h)))
 
 -- a way ends at a node
 way-inside : (n : ℕ) (es : List Edge) (s : ℕ) → Inside n es → s < n → {v : ℕ} {c : Float} → Way es s v c → v < n
@@ -77,37 +72,25 @@ first-values n s N M t h S w l = elim (decLe w s) [
     other : (w ≡ s → ⊥) → value n t w ≡ distanceAt (set (replicate N infinity) s zeroLength) w
     other q = S .others w q ∙ getD-replicate M (n + w) infinity nan l ∙ sym (getD-set-other (replicate N infinity) s w zeroLength infinity q ∙ getD-same N w infinity)
 
-module _ (n : ℕ) (few : n ≤ 1534) (es : List Edge) (g : Adjacency) (G : GraphOf n es g) where
-  -- the list of a node has the node's edges
-  pub follows-edges : (u : ℕ) → u < n → Follows g u (firstArc (g .heads) u) (edgesAt es u)
-  follows-edges u l =
-      subst (λ (a : Adjacency). Follows a u (firstArc (a .heads) u) (edgesAt es u)) (sym (G .is)) (lists-follow es u (G .few) (ends-of es (inside-room n es few (G .inside))) (omega arith))
-
-  pub fit-edges : (u : ℕ) → Fit n (edgesAt es u)
-  fit-edges u r i =
-      let k = arc-joins es u r i in
-      (joins-inside n es (G .inside) (k .0 .by) u (r .to) (k .0 .isIn) (k .0 .joins), rw (k .1) (G .weights (k .0 .by) (k .0 .isIn)))
-
-  pub arcs-of : (u : ℕ) → u < n → ArcsOf n g u
-  arcs-of u l = record { arcs = edgesAt es u; follows = follows-edges u l; fit = fit-edges u }
-
+-- edges between n nodes, none of negative weight
+module _ (n : ℕ) (few : n ≤ mostNodes) (es : List Edge) (inside : Inside n es) (weights : Weights es) where
   module _ (s : ℕ) (isNode : s < n) where
-    in-room : s < 1534
+    in-room : s < mostNodes
     in-room = omega arith
 
-    room : Inside 1534 es
-    room = inside-room n es few (G .inside)
+    room : Inside mostNodes es
+    room = inside-room n es few inside
 
-    pub searching-begin : (t : List Float) → Stored n s zeroLength (replicate 3068 infinity) t → Searching n es s 1534 (set (replicate 1534 infinity) s zeroLength) t
+    pub searching-begin : (t : List Float) → Stored n s zeroLength (replicate (2 * mostNodes) infinity) t → Searching n es s mostNodes (set (replicate mostNodes infinity) s zeroLength) t
     searching-begin t S = record {
-      done = replicate 1534 false;
+      done = replicate mostNodes false;
       run = begin;
-      queue = λ w l. (λ o. first-values n s 1534 3068 t in-room S w (omega arith), λ h. absurd (false≢true (sym (getD-same 1534 w false) ∙ h)));
+      queue = λ w l. (λ o. first-values n s mostNodes (2 * mostNodes) t in-room S w (omega arith), λ h. absurd (false≢true (sym (getD-same mostNodes w false) ∙ h)));
     }
 
     module _ (left : ℕ) (ds t : List Float) (H : Held n ds t) (S : Searching n es s left ds t) where
-      invariant : Invariant 1534 es s ds (S .done)
-      invariant = run-invariant 1534 es (G .weights) room s in-room (S .run)
+      invariant : Invariant mostNodes es s ds (S .done)
+      invariant = run-invariant mostNodes es weights room s in-room (S .run)
 
       first-nonneg : Nonneg binary64 (at t 1)
       first-nonneg = H .tree .nonneg 1 (omega arith)
@@ -118,22 +101,22 @@ module _ (n : ℕ) (few : n ≤ 1534) (es : List Edge) (g : Adjacency) (G : Grap
         | yes l ↦ subst (λ (x : Float). key binary64 (at t 1) ≤ key binary64 x) (S .queue v l .0 o) (least n t (H .tree) few v l)
         | no m ↦ elim (invariant .way v) [
           | inl e ↦ rw e (key-top binary64 (at t 1) first-nonneg)
-          | inr w ↦ absurd (m (way-inside n es s (G .inside) isNode w))
+          | inr w ↦ absurd (m (way-inside n es s inside isNode w))
         ]
       ]
 
       -- where that is not below the limit, the search is at its end
       pub far-up-to : (limit : Float) → Nonneg binary64 limit → lt (at t 1) limit ≡ false → (v : ℕ) → UpTo es s limit v (distanceAt ds v)
-      far-up-to limit p h = run-up-to 1534 es (G .weights) room s in-room (S .run) limit (λ v o. le-trans (lt-false (at t 1) limit first-nonneg p h) (nearest v o))
+      far-up-to limit p h = run-up-to mostNodes es weights room s in-room (S .run) limit (λ v o. le-trans (lt-false (at t 1) limit first-nonneg p h) (nearest v o))
 
-      -- and so it is after 1534 rounds
+      -- and so it is after mostNodes rounds
       pub last-up-to : (limit : Float) → Nonneg binary64 limit → left ≡ 0 → (v : ℕ) → UpTo es s limit v (distanceAt ds v)
       last-up-to limit p h =
-          run-up-to 1534 es (G .weights) room s in-room (S .run) limit
-          (λ v o. le-trans (key-top binary64 limit p) (run-settled 1534 es (G .weights) room s in-room (S .run) (omega arith) v o))
+          run-up-to mostNodes es weights room s in-room (S .run) limit
+          (λ v o. le-trans (key-top binary64 limit p) (run-settled mostNodes es weights room s in-room (S .run) (omega arith) v o))
 
       -- a round
-      module _ (some : 0 < left) (most : left ≤ 1534) (near : key binary64 (at t 1) < top) (u : ℕ) (isLeast : u < n) (is : value n t u ≡ at t 1) where
+      module _ (some : 0 < left) (most : left ≤ mostNodes) (near : key binary64 (at t 1) < top) (u : ℕ) (isLeast : u < n) (is : value n t u ≡ at t 1) where
         u-open : Open (S .done) u
         u-open = go (getD (S .done) u false) refl
           where
@@ -149,14 +132,14 @@ module _ (n : ℕ) (few : n ≤ 1534) (es : List Edge) (g : Adjacency) (G : Grap
         chosen : Chosen ds (S .done) u (at t 1)
         chosen = record { least = nearest; node = inr (omega (arith, H .long), is-distance, u-open) }
 
-        module _ (ds' t' : List Float) (R : Relaxed n g u (at t 1) ds t ds' t') (t'' : List Float) (P : Stored n u infinity t' t'') where
+        module _ (ds' t' : List Float) (R : Relaxed n (edgesAt es u) (at t 1) ds t ds' t') (t'' : List Float) (P : Stored n u infinity t' t'') where
           improved : Improved (Next u (at t 1) es) ds ds'
           improved =
-              subst (Improved (Next u (at t 1) es) ds) (sym (R .improved (edgesAt es u) (follows-edges u isLeast) (fit-edges u)))
-              (relaxed (at t 1) first-nonneg es (G .weights) u ds (H .nonneg))
+              subst (Improved (Next u (at t 1) es) ds) (sym (R .improved))
+              (relaxed (at t 1) first-nonneg es weights u ds (H .nonneg))
 
           stays : (w : ℕ) → Done (set (S .done) u true) w → distanceAt ds' w ≡ distanceAt ds w
-          stays = done-stays 1534 es (G .weights) room s ds (S .done) invariant u (at t 1) chosen ds' improved
+          stays = done-stays mostNodes es weights room s ds (S .done) invariant u (at t 1) chosen ds' improved
 
           open-value : (w : ℕ) → w < n → Open (set (S .done) u true) w → value n t'' w ≡ distanceAt ds' w
           open-value w l o =
@@ -183,96 +166,114 @@ module _ (n : ℕ) (few : n ≤ 1534) (es : List Edge) (g : Adjacency) (G : Grap
 
           pub searching-step : Searching n es s (left - 1) ds' t''
           searching-step =
-              let count : suc (1534 - left) ≡ 1534 - (left - 1) = omega arith in
+              let count : suc (mostNodes - left) ≡ mostNodes - (left - 1) = omega arith in
               record {
                 done = set (S .done) u true;
-                run = subst (λ (k : ℕ). Run 1534 es s k ds' (set (S .done) u true)) count (round (S .run) u (at t 1) chosen ds' improved);
+                run = subst (λ (k : ℕ). Run mostNodes es s k ds' (set (S .done) u true)) count (round (S .run) u (at t 1) chosen ds' improved);
                 queue = λ w l. (open-value w l, done-value w l);
               }
 
 -- ---- the loop of the code
 
 -- what holds at the head of the loop
-pub record Progress (n : ℕ) (g : Adjacency) (s left : ℕ) (ds t : List Float) : Type 0 where
-  pub most : left ≤ 1534
+pub record Progress (n : ℕ) (es : List Edge) (s left : ℕ) (ds t : List Float) : Type 0 where
+  pub most : left ≤ mostNodes
   pub held : Held n ds t
-  pub search : (es : List Edge) → GraphOf n es g → Searching n es s left ds t
+  pub search : Searching n es s left ds t
 
 start-nonneg : (N s : ℕ) → AllNonneg (set (replicate N infinity) s zeroLength)
 start-nonneg N s v = elim (set-cases (replicate N infinity) s zeroLength infinity v) [ inl p ↦ rw (p .1) (zero-nonneg binary64) | inr q ↦ rw (q ∙ getD-same N v infinity) (inf-nonneg binary64) ]
 
 -- no value stored yet
-pub far-tree : (n : ℕ) (far : Float) → far ≡ infinity → n ≤ 1534 → Tree n (replicate 3068 far)
-far-tree n far e few = subst (λ (x : Float). Tree n (replicate 3068 x)) (sym e) (tree-none n few)
+pub far-tree : (n : ℕ) (far : Float) → far ≡ infinity → n ≤ mostNodes → Tree n (replicate (2 * mostNodes) far)
+far-tree n far e few = subst (λ (x : Float). Tree n (replicate (2 * mostNodes) x)) (sym e) (tree-none n few)
 
 -- the tournament with a value taken out goes with the same distances
 held-with : (n : ℕ) (ds t : List Float) → Held n ds t → (t' : List Float) → Tree n t' → Held n ds t'
 held-with n ds t H t' T = record { tree = T; long = H .long; nonneg = H .nonneg }
 
-module _ (n : ℕ) (g : Adjacency) (s : ℕ) (few : n ≤ 1534) (isNode : s < n) (far : Float) (isFar : far ≡ infinity) where
-  pub progress-begin : (t : List Float) → Stored n s zeroLength (replicate 3068 far) t → Progress n g s 1534 (set (replicate 1534 far) s zeroLength) t
+module _ (n m : ℕ) (a : Adjacency) (H : EdgesHeld n m a) (s : ℕ) (isNode : s < n) (far : Float) (isFar : far ≡ infinity) where
+  abbrev es : List Edge
+  es = edgesIn m a
+
+  abbrev few : n ≤ mostNodes
+  few = H .edges .few-nodes
+
+  abbrev inside : Inside n es
+  inside = H .searchable .inside
+
+  abbrev weights : Weights es
+  weights = H .searchable .weights
+
+  pub progress-begin : (t : List Float) → Stored n s zeroLength (replicate (2 * mostNodes) far) t → Progress n es s mostNodes (set (replicate mostNodes far) s zeroLength) t
   progress-begin t S =
-      let stored : Stored n s zeroLength (replicate 3068 infinity) t = subst (λ (x : Float). Stored n s zeroLength (replicate 3068 x) t) isFar S in
-      subst (λ (x : Float). Progress n g s 1534 (set (replicate 1534 x) s zeroLength) t) (sym isFar)
+      let stored : Stored n s zeroLength (replicate (2 * mostNodes) infinity) t = subst (λ (x : Float). Stored n s zeroLength (replicate (2 * mostNodes) x) t) isFar S in
+      subst (λ (x : Float). Progress n es s mostNodes (set (replicate mostNodes x) s zeroLength) t) (sym isFar)
       (record {
-        most = le-refl 1534;
+        most = le-refl mostNodes;
         held = record {
           tree = S .tree;
-          long = length-set (replicate 1534 infinity) s zeroLength ∙ length-replicate 1534 infinity;
-          nonneg = start-nonneg 1534 s;
+          long = length-set (replicate mostNodes infinity) s zeroLength ∙ length-replicate mostNodes infinity;
+          nonneg = start-nonneg mostNodes s;
         };
-        search = λ es G. searching-begin n few es g G s isNode t stored;
+        search = searching-begin n few es inside weights s isNode t stored;
       })
 
-  module _ (left : ℕ) (ds t : List Float) (P : Progress n g s left ds t) (goal : ℕ) (limit : Float) (isLimit : limit ≡ distanceAt ds goal) where
+  module _ (left : ℕ) (ds t : List Float) (P : Progress n es s left ds t) (goal : ℕ) (limit : Float) (isLimit : limit ≡ distanceAt ds goal) where
     limit-nonneg : Nonneg binary64 limit
     limit-nonneg = subst (Nonneg binary64) (sym isLimit) (P .held .nonneg goal)
 
-    pub progress-step : 0 < left → lt (at t 1) limit ≡ true → (u : ℕ) → u < n → value n t u ≡ at t 1 → (ds' t' : List Float) → Relaxed n g u (at t 1) ds t ds' t'
-        → (t'' : List Float) → Stored n u far t' t'' → Progress n g s (left - 1) ds' t''
+    pub progress-step : 0 < left → lt (at t 1) limit ≡ true → (u : ℕ) → u < n → value n t u ≡ at t 1 → (ds' t' : List Float) → Relaxed n (edgesAt es u) (at t 1) ds t ds' t'
+        → (t'' : List Float) → Stored n u far t' t'' → Progress n es s (left - 1) ds' t''
     progress-step some near u l is ds' t' R t'' S = record {
       most = omega (arith, P .most);
       held = held-with n ds' t' (R .held) t'' (S .tree);
-      search = λ es G. searching-step n few es g G s isNode left ds t (P .held) (P .search es G) some (P .most)
+      search = searching-step n few es inside weights s isNode left ds t (P .held) (P .search) some (P .most)
           (le-trans (lt-true (at t 1) limit (P .held .tree .nonneg 1 (omega arith)) limit-nonneg near) (key-top binary64 limit limit-nonneg))
           u l is ds' t' R t'' (subst (λ (x : Float). Stored n u x t' t'') isFar S);
     }
 
-    pub progress-far : lt (at t 1) limit ≡ false → (es : List Edge) → GraphOf n es g → (v : ℕ) → UpTo es s (distanceAt ds goal) v (distanceAt ds v)
-    progress-far h es G v = subst (λ (x : Float). UpTo es s x v (distanceAt ds v)) isLimit (far-up-to n few es g G s isNode left ds t (P .held) (P .search es G) limit limit-nonneg h v)
+    pub progress-far : lt (at t 1) limit ≡ false → Found es s goal ds
+    progress-far h = record {
+      long = P .held .long;
+      nonneg = P .held .nonneg;
+      up-to = λ v. subst (λ (x : Float). UpTo es s x v (distanceAt ds v)) isLimit (far-up-to n few es inside weights s isNode left ds t (P .held) (P .search) limit limit-nonneg h v);
+    }
 
-  pub progress-last : (ds t : List Float) → Progress n g s 0 ds t → (goal : ℕ) → (es : List Edge) → GraphOf n es g → (v : ℕ) → UpTo es s (distanceAt ds goal) v (distanceAt ds v)
-  progress-last ds t P goal es G = last-up-to n few es g G s isNode 0 ds t (P .held) (P .search es G) (distanceAt ds goal) (P .held .nonneg goal) refl
+  pub progress-last : (left : ℕ) (ds t : List Float) → Progress n es s left ds t → left ≡ 0 → (goal : ℕ) → Found es s goal ds
+  progress-last left ds t P none goal = record {
+    long = P .held .long;
+    nonneg = P .held .nonneg;
+    up-to = last-up-to n few es inside weights s isNode left ds t (P .held) (P .search) (distanceAt ds goal) (P .held .nonneg goal) none;
+  }
 
-pub found : (n : ℕ) (g : Adjacency) (s goal : ℕ) (ds t : List Float) → Held n ds t → ((es : List Edge) → GraphOf n es g → (v : ℕ) → UpTo es s (distanceAt ds goal) v (distanceAt ds v))
-    → Found n g s goal ds
-found n g s goal ds t H U = record { long = H .long; nonneg = H .nonneg; up-to = U }
+-- ---- what is found are the definition's distances
 
-module _ (n : ℕ) (g : Adjacency) (s goal : ℕ) (ds : List Float) (F : Found n g s goal ds) (es : List Edge) (G : GraphOf n es g) where
+module _ (es : List Edge) (s goal : ℕ) (ds : List Float) (F : Found es s goal ds) where
   -- the goal's distance is the least cost
   pub goal-least : Least es s goal (distanceAt ds goal)
-  goal-least = F .up-to es G goal .near (le-refl _)
+  goal-least = F .up-to goal .near (le-refl _)
 
   -- with no node as goal, every distance is
-  pub all-least : 1534 ≤ goal → (v : ℕ) → Least es s v (distanceAt ds v)
+  pub all-least : mostNodes ≤ goal → (v : ℕ) → Least es s v (distanceAt ds v)
   all-least h v =
       let none : distanceAt ds goal ≡ infinity = List·getD-eq-default ds infinity (omega (arith, F .long)) in
-      F .up-to es G v .near (subst (λ (x : Float). keyAt ds v ≤ key binary64 x) (sym none) (key-top binary64 (distanceAt ds v) (F .nonneg v)))
+      F .up-to v .near (subst (λ (x : Float). keyAt ds v ≤ key binary64 x) (sym none) (key-top binary64 (distanceAt ds v) (F .nonneg v)))
 
-  module _ (isNode : s < n) where
+  module _ (n : ℕ) (inside : Inside n es) (weights : Weights es) (isNode : s < n) where
     pub goal-same : distanceAt ds goal ≡ distanceAt (distances n es s) goal
-    goal-same = least-unique es (G .weights) s goal-least (least-distance n es (G .weights) (G .inside) s isNode goal)
+    goal-same = least-unique es weights s goal-least (least-distance n es weights inside s isNode goal)
 
-    pub all-same : 1534 ≤ goal → (v : ℕ) → distanceAt ds v ≡ distanceAt (distances n es s) v
-    all-same h v = least-unique es (G .weights) s (all-least h v) (least-distance n es (G .weights) (G .inside) s isNode v)
+    pub all-same : mostNodes ≤ goal → (v : ℕ) → distanceAt ds v ≡ distanceAt (distances n es s) v
+    all-same h v = least-unique es weights s (all-least h v) (least-distance n es weights inside s isNode v)
 
     -- a distance is the definition's, or neither the one nor the other is below the goal's
     pub same-or-far : (v : ℕ) → (distanceAt ds v ≡ distanceAt (distances n es s) v) ⊎ ((keyAt ds goal ≤ keyAt ds v) × (keyAt ds goal ≤ keyAt (distances n es s) v))
     same-or-far v =
-        let U = F .up-to es G v in
-        let L = least-distance n es (G .weights) (G .inside) s isNode v in
+        let U = F .up-to v in
+        let L = least-distance n es weights inside s isNode v in
         elim (decLe (keyAt ds v) (keyAt ds goal)) [
-          | yes l ↦ inl (least-unique es (G .weights) s (U .near l) L)
+          | yes l ↦ inl (least-unique es weights s (U .near l) L)
           | no m ↦
               let q = le-of-lt (lt-of-not-le m) in
               inr (

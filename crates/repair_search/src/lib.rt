@@ -1,6 +1,6 @@
-// Least distances from one node to all, along the edges of a graph in flat arrays (crates/adjacency), by
+// Least distances from one node to all, along the edges of a graph in flat arrays (crates/graph_adjacency), by
 // Dijkstra's algorithm of 1959: of the nodes that are not yet done take a nearest, and see whether its edges
-// lead to a nearer way. A tournament (crates/tournament) has the distance of each node that was reached and
+// lead to a nearer way. A tournament (crates/repair_tournament) has the distance of each node that was reached and
 // is not done, and infinity for every other.
 ghost use mathlib.Core.Path.{_≡_};
 ghost use Prim.Native.Nat.{_<_, _≤_};
@@ -8,12 +8,14 @@ ghost use lib.ListN.{length};
 ghost use lib.Ieee.{binary64};
 ghost use Rattle.limits.specs.Limits.{mostNodes};
 ghost use Rattle.sums.specs.Key.{Nonneg};
+ghost use Rattle.graph_spec.specs.Graph.{edgesAt};
 ghost use Rattle.graph_adjacency.specs.Lists.{adjacency};
+ghost use Rattle.graph_arrays.specs.Arrays.{edgesIn, EdgesHeld};
 ghost use Rattle.repair_spec.specs.Distance.{distanceAt};
 ghost use Rattle.repair_search.specs.Offer.{Held, Offered};
-ghost use Rattle.repair_search.specs.Relaxing.{ArcsOf, Relaxed};
-ghost use Rattle.repair_search.specs.Search.{IsGraph, Found};
-ghost use Rattle.repair_search.specs.Farther.{Leads};
+ghost use Rattle.repair_search.specs.Relaxing.{Relaxed};
+ghost use Rattle.repair_search.specs.Search.{Found};
+use limits::ARC_ROOM;
 use limits::EDGE_ROOM;
 use limits::MOST_NODES;
 
@@ -35,19 +37,21 @@ fn offer(
 }
 
 // Looks along the edges of u, which is at the distance d.
-pub fn relax(
-    ends: &[u16; 2 * EDGE_ROOM],
+fn relax(
+    ends: &[u16; ARC_ROOM],
     weights: &[f64; EDGE_ROOM],
-    next: &[u16; 2 * EDGE_ROOM],
+    next: &[u16; ARC_ROOM],
     heads: &[u16; 2 * MOST_NODES],
+    n: usize,
+    m: usize,
     dist: &mut [f64; MOST_NODES],
     tree: &mut [f64; 2 * MOST_NODES],
-    n: usize,
     u: usize,
     d: f64,
 )
-    requires { ⌜ (n ≤ mostNodes) × (u < n) × Nonneg binary64 d × Held n (now dist) (now tree) × ArcsOf n (adjacency (now ends) (now weights) (now next) (now heads)) u ⌝ }
-    ensures { λ _. ⌜ Relaxed n (adjacency (now (ends .entry)) (now (weights .entry)) (now (next .entry)) (now (heads .entry))) u d (now (dist .entry)) (now (tree .entry)) (now (dist .exit)) (now (tree .exit)) ⌝ }
+    requires { ⌜ (u < n) × Nonneg binary64 d × Held n (now dist) (now tree) ⌝ }
+    requires { ⌜ EdgesHeld n m (adjacency (now ends) (now weights) (now next) (now heads)) ⌝ }
+    ensures { λ _. ⌜ Relaxed n (edgesAt (edgesIn m (adjacency (now (ends .entry)) (now (weights .entry)) (now (next .entry)) (now (heads .entry)))) u) d (now (dist .entry)) (now (tree .entry)) (now (dist .exit)) (now (tree .exit)) ⌝ }
 {
     let mut k = graph_adjacency::first_arc(heads, u);
     while k != 0 {
@@ -77,18 +81,20 @@ pub struct Distances {
 
 // The least distances from s to each of n nodes, up to that of the goal: one that is lower than the goal's or
 // equal to it is the least, and no node with a higher one is nearer than the goal. With a goal that is no
-// node, as 1534, all are least.
+// node, as MOST_NODES, all are least.
 pub fn least_distances(
-    ends: &[u16; 2 * EDGE_ROOM],
+    ends: &[u16; ARC_ROOM],
     weights: &[f64; EDGE_ROOM],
-    next: &[u16; 2 * EDGE_ROOM],
+    next: &[u16; ARC_ROOM],
     heads: &[u16; 2 * MOST_NODES],
     n: usize,
+    m: usize,
     s: usize,
     goal: usize,
 ) -> Distances
-    requires { ⌜ (n ≤ mostNodes) × (s < n) × IsGraph n (adjacency (now ends) (now weights) (now next) (now heads)) ⌝ }
-    ensures { λ r. ⌜ Found n (adjacency (now (ends .entry)) (now (weights .entry)) (now (next .entry)) (now (heads .entry))) s goal (r .at) ⌝ }
+    requires { ⌜ s < n ⌝ }
+    requires { ⌜ EdgesHeld n m (adjacency (now ends) (now weights) (now next) (now heads)) ⌝ }
+    ensures { λ r. ⌜ Found (edgesIn m (adjacency (now (ends .entry)) (now (weights .entry)) (now (next .entry)) (now (heads .entry)))) s goal (r .at) ⌝ }
 {
     let infinity = repair_tournament::infinity();
     let mut dist = [infinity; MOST_NODES];
@@ -103,31 +109,9 @@ pub fn least_distances(
             break;
         }
         let u = repair_tournament::least(&tree, n);
-        relax(ends, weights, next, heads, &mut dist, &mut tree, n, u, d);
+        relax(ends, weights, next, heads, n, m, &mut dist, &mut tree, u, d);
         repair_tournament::store(&mut tree, n, u, infinity);
         left -= 1;
     }
     Distances { at: dist }
-}
-
-// Distances from s by which the way back from the goal is the shortest path: those up to the goal's, or all
-// where the goal is 2^40 pixels away or more, as it is where no way leads to it.
-pub fn retrace_distances(
-    ends: &[u16; 2 * EDGE_ROOM],
-    weights: &[f64; EDGE_ROOM],
-    next: &[u16; 2 * EDGE_ROOM],
-    heads: &[u16; 2 * MOST_NODES],
-    n: usize,
-    s: usize,
-    goal: usize,
-) -> Distances
-    requires { ⌜ (n ≤ mostNodes) × (s < n) × (goal < n) × IsGraph n (adjacency (now ends) (now weights) (now next) (now heads)) ⌝ }
-    ensures { λ r. ⌜ Leads n (adjacency (now (ends .entry)) (now (weights .entry)) (now (next .entry)) (now (heads .entry))) s goal (r .at) ⌝ }
-{
-    let near = least_distances(ends, weights, next, heads, n, s, goal);
-    let at = near.at;
-    if at[goal] < 1099511627776.0 {
-        return near;
-    }
-    least_distances(ends, weights, next, heads, n, s, MOST_NODES)
 }

@@ -1,21 +1,22 @@
--- `search::least_distances` meets its contract. Assumes nothing.
-use mathlib.Core.Path.{_≡_, subst}
+-- `repair_search::least_distances` meets its contract. Assumes nothing.
+use mathlib.Core.Path.{_≡_}
 use Prim.Native.Nat.{ℕ}
 use native.Mathlib.Omega.{arith}
 use borrow.Author.Needs.{needs}
 use borrow.Author.Tests.{not-true, not-false}
 use lib.Ieee.{binary64, ofBits}
 use Rattle.sums.proofs.Sum.{zero-nonneg, inf-nonneg}
-use Rattle.repair_search.proofs.Search.{far-tree, Progress, progress-begin, progress-step, progress-far, progress-last, arcs-of, found}
 use Rattle.graph_adjacency.specs.Lists.{Adjacency, adjacency}
+use Rattle.graph_arrays.specs.Arrays.{edgesIn}
+use Rattle.repair_search.proofs.Search.{far-tree, Progress, progress-begin, progress-step, progress-far, progress-last}
 use Rattle.repair_search.proofs.least_distances.Statement.{statement}
 use Rattle.repair_search.proofs.least_distances.Tie as tie
 
 abbrev Inv-loop : tie.InvT-loop
-Inv-loop ends weights next heads n s goal infinity dist₀ tree₀ left₀ dist tree left = Progress n (adjacency ends weights next heads) s left dist tree
+Inv-loop ends weights next heads n m s goal infinity dist₀ tree₀ left₀ dist tree left = Progress n (edgesIn m (adjacency ends weights next heads)) s left dist tree
 
 abbrev μ-loop : tie.MeasureT-loop
-μ-loop ends weights next heads n s goal infinity dist₀ tree₀ left₀ dist tree left = left
+μ-loop ends weights next heads n m s goal infinity dist₀ tree₀ left₀ dist tree left = left
 
 abbrev graph : tie.Start Inv-loop μ-loop → Adjacency
 graph c = adjacency (c .args .ends .now) (c .args .weights .now) (c .args .next .now) (c .args .heads .now)
@@ -27,15 +28,20 @@ mul-dist : tie.Need-mul-dist Inv-loop μ-loop
 mul-dist c = search needs
 
 array-write-dist : tie.Need-array-write-dist Inv-loop μ-loop
-array-write-dist c = search needs
+array-write-dist c = omega (arith, c .before .pre .0, c .before .pre .1 .edges .few-nodes)
 
 store-requires : tie.Need-store-requires Inv-loop μ-loop
 unfolding ofBits
-store-requires c κs = (c .before .before .pre .0, c .before .before .pre .1, far-tree (c .before .before .args .n) (c .before .infinity .result) (c .before .infinity .ensures) (c .before .before .pre .0), zero-nonneg binary64)
+store-requires c κs =
+    let b = c .before .before in
+    (b .pre .1 .edges .few-nodes, b .pre .0, far-tree (b .args .n) (c .before .infinity .result) (c .before .infinity .ensures) (b .pre .1 .edges .few-nodes), zero-nonneg binary64)
 
 loop-holds : tie.Need-loop-holds Inv-loop μ-loop
 unfolding ofBits
-loop-holds c = progress-begin (c .before .before .before .args .n) (graph (c .before .before .before)) (c .before .before .before .args .s) (c .before .before .before .pre .0) (c .before .before .before .pre .1) (c .before .before .infinity .result) (c .before .before .infinity .ensures) (c .store .last .0) (c .store .ensures)
+loop-holds c =
+    let f = c .before .before in
+    let b = f .before in
+    progress-begin (b .args .n) (b .args .m) (graph b) (b .pre .1) (b .args .s) (b .pre .0) (f .infinity .result) (f .infinity .ensures) (c .store .last .0) (c .store .ensures)
 
 array-read-d : tie.Need-array-read-d Inv-loop μ-loop
 array-read-d c = search needs
@@ -44,16 +50,23 @@ distance-of-requires : tie.Need-distance-of-requires Inv-loop μ-loop
 distance-of-requires c κs = c .before .before .loop .inv .held .long
 
 least-requires : tie.Need-least-requires Inv-loop μ-loop
-least-requires c κs = (omega (arith, c .before .before .before .before .before .before .before .before .before .pre .1), c .before .before .before .before .before .before .before .before .before .pre .0, c .before .before .before .before .before .loop .inv .held .tree)
+least-requires c κs =
+    let l = c .before .before .before .before .before in
+    let b = l .before .before .before .before in
+    (omega (arith, b .pre .0), b .pre .1 .edges .few-nodes, l .loop .inv .held .tree)
 
 relax-requires : tie.Need-relax-requires Inv-loop μ-loop
 relax-requires c κs =
-    let H = c .before .before .before .before .before .before .before .before .loop .inv .held in
-    let A = c .before .before .before .before .before .before .before .before .before .before .before .before .pre .2 in
-    (c .before .before .before .before .before .before .before .before .before .before .before .before .pre .0, c .before .before .least .ensures .0, H .tree .nonneg 1 (omega arith), H, arcs-of _ (c .before .before .before .before .before .before .before .before .before .before .before .before .pre .0) (A .edges) _ (A .graph) _ (c .before .before .least .ensures .0))
+    let l = c .before .before .before .before .before .before .before .before in
+    let b = l .before .before .before .before in
+    let H = l .loop .inv .held in
+    ((c .before .before .least .ensures .0, H .tree .nonneg 1 (omega arith), H), b .pre .1)
 
 store-requires-2 : tie.Need-store-requires-2 Inv-loop μ-loop
-store-requires-2 c κs = (c .before .before .before .before .before .before .before .before .before .before .before .before .before .before .pre .0, c .before .before .before .before .least .ensures .0, c .before .relax .ensures .held .tree, rw (c .before .before .before .before .before .before .before .before .before .before .before .before .before .infinity .ensures) (inf-nonneg binary64))
+store-requires-2 c κs =
+    let l = c .before .before .before .before .before .before .before .before .before .before in
+    let f = l .before .before .before in
+    (f .before .pre .1 .edges .few-nodes, c .before .before .before .before .least .ensures .0, c .before .relax .ensures .held .tree, rw (f .infinity .ensures) (inf-nonneg binary64))
 
 sub-left : tie.Need-sub-left Inv-loop μ-loop
 sub-left c = search needs
@@ -63,21 +76,30 @@ loop-less c = search needs
 
 loop-again : tie.Need-loop-again Inv-loop μ-loop
 loop-again c =
-    progress-step (c .before .before .before .before .before .before .before .before .before .before .before .before .before .before .before .args .n) (graph (c .before .before .before .before .before .before .before .before .before .before .before .before .before .before .before)) (c .before .before .before .before .before .before .before .before .before .before .before .before .before .before .before .args .s) (c .before .before .before .before .before .before .before .before .before .before .before .before .before .before .before .pre .0) (c .before .before .before .before .before .before .before .before .before .before .before .before .before .before .before .pre .1) (c .before .before .before .before .before .before .before .before .before .before .before .before .before .before .infinity .result) (c .before .before .before .before .before .before .before .before .before .before .before .before .before .before .infinity .ensures) (c .before .before .before .before .before .before .before .before .before .before .before .loop .left) (c .before .before .before .before .before .before .before .before .before .before .before .loop .dist) (c .before .before .before .before .before .before .before .before .before .before .before .loop .tree) (c .before .before .before .before .before .before .before .before .before .before .before .loop .inv) (c .before .before .before .before .before .before .before .before .before .before .before .before .before .before .before .args .goal) (c .before .before .before .before .before .before .before .before .distance-of .result) (c .before .before .before .before .before .before .before .before .distance-of .ensures)
-    (c .before .before .before .before .before .before .before .before .before .before .loop-test .taken) (not-false _ (c .before .before .before .before .before .before .before .if1 .left)) (c .before .before .before .before .before .least .result) (c .before .before .before .before .before .least .ensures .0) (c .before .before .before .before .before .least .ensures .1)
-    (c .before .before .relax .last .1 .1 .1 .1 .0) (c .before .before .relax .last .1 .1 .1 .1 .1 .0) (c .before .before .relax .ensures) (c .store2 .last .0) (c .store2 .ensures)
+    let l = c .before .before .before .before .before .before .before .before .before .before .before in
+    let f = l .before .before .before in
+    let b = f .before in
+    progress-step (b .args .n) (b .args .m) (graph b) (b .pre .1) (b .args .s) (b .pre .0) (f .infinity .result) (f .infinity .ensures) (l .loop .left) (l .loop .dist) (l .loop .tree) (l .loop .inv)
+    (b .args .goal) (c .before .before .before .before .before .before .before .before .distance-of .result) (c .before .before .before .before .before .before .before .before .distance-of .ensures)
+    (c .before .before .before .before .before .before .before .before .before .before .loop-test .taken) (not-false _ (c .before .before .before .before .before .before .before .if1 .left))
+    (c .before .before .before .before .before .least .result) (c .before .before .before .before .before .least .ensures .0) (c .before .before .before .before .before .least .ensures .1)
+    (c .before .before .relax .last .1 .1 .1 .1 .1 .1 .0) (c .before .before .relax .last .1 .1 .1 .1 .1 .1 .1 .0) (c .before .before .relax .ensures) (c .store2 .last .0) (c .store2 .ensures)
 
 returns : tie.Need-returns Inv-loop μ-loop
 returns c =
-    let none : c .before .loop .left ≡ 0 = omega (arith, c .loop-test .left) in
-    found (c .before .before .before .before .before .args .n) (graph (c .before .before .before .before .before)) (c .before .before .before .before .before .args .s) (c .before .before .before .before .before .args .goal) _ _ (c .before .loop .inv .held)
-    (progress-last (c .before .before .before .before .before .args .n) (graph (c .before .before .before .before .before)) (c .before .before .before .before .before .args .s) (c .before .before .before .before .before .pre .0) (c .before .before .before .before .before .pre .1) (c .before .before .before .before .infinity .result) (c .before .before .before .before .infinity .ensures) (c .before .loop .dist) (c .before .loop .tree)
-    (subst (λ (k : ℕ). Progress (c .before .before .before .before .before .args .n) (graph (c .before .before .before .before .before)) (c .before .before .before .before .before .args .s) k (c .before .loop .dist) (c .before .loop .tree)) none (c .before .loop .inv)) (c .before .before .before .before .before .args .goal))
+    let l = c .before in
+    let f = l .before .before .before in
+    let b = f .before in
+    progress-last (b .args .n) (b .args .m) (graph b) (b .pre .1) (b .args .s) (b .pre .0) (f .infinity .result) (f .infinity .ensures) (l .loop .left) (l .loop .dist) (l .loop .tree) (l .loop .inv)
+    (omega (arith, c .loop-test .left)) (b .args .goal)
 
 returns-2 : tie.Need-returns-2 Inv-loop μ-loop
 returns-2 c =
-    found (c .before .before .before .before .before .before .before .before .args .n) (graph (c .before .before .before .before .before .before .before .before)) (c .before .before .before .before .before .before .before .before .args .s) (c .before .before .before .before .before .before .before .before .args .goal) _ _ (c .before .before .before .before .loop .inv .held)
-    (progress-far (c .before .before .before .before .before .before .before .before .args .n) (graph (c .before .before .before .before .before .before .before .before)) (c .before .before .before .before .before .before .before .before .args .s) (c .before .before .before .before .before .before .before .before .pre .0) (c .before .before .before .before .before .before .before .before .pre .1) (c .before .before .before .before .before .before .before .infinity .result) (c .before .before .before .before .before .before .before .infinity .ensures) (c .before .before .before .before .loop .left) (c .before .before .before .before .loop .dist) (c .before .before .before .before .loop .tree) (c .before .before .before .before .loop .inv) (c .before .before .before .before .before .before .before .before .args .goal) (c .before .distance-of .result) (c .before .distance-of .ensures) (not-true _ (c .if1 .taken)))
+    let l = c .before .before .before .before in
+    let f = l .before .before .before in
+    let b = f .before in
+    progress-far (b .args .n) (b .args .m) (graph b) (b .pre .1) (b .args .s) (b .pre .0) (f .infinity .result) (f .infinity .ensures) (l .loop .left) (l .loop .dist) (l .loop .tree) (l .loop .inv)
+    (b .args .goal) (c .before .distance-of .result) (c .before .distance-of .ensures) (not-true _ (c .if1 .taken))
 
 pub least-distances-spec : {M : Type 1} → statement M
 least-distances-spec =

@@ -1,31 +1,45 @@
--- `search::relax` meets its contract. Assumes nothing.
-use mathlib.Core.Path.{sym, subst}
+-- `repair_search::relax` meets its contract. Assumes nothing.
+use mathlib.Core.Path.{_≡_, sym, subst}
 use Prim.Native.Nat.{ℕ}
 use native.Mathlib.Omega.{arith}
 use borrow.Author.Needs.{needs}
-use Rattle.repair_search.proofs.Relaxing.{relaxing-turn, known-cost, Relaxing, Known, relaxing-begin, relaxing-known, relaxing-end}
+use Rattle.graph_spec.specs.Graph.{edgesAt}
 use Rattle.graph_adjacency.specs.Lists.{Adjacency, adjacency}
+use Rattle.graph_arrays.specs.Arrays.{edgesIn}
+use Rattle.repair_search.proofs.Along.{Known}
+use Rattle.repair_search.proofs.Relaxing.{Relaxing, relaxing-begin, relaxing-known, relaxing-cost, relaxing-turn, relaxing-end}
 use Rattle.repair_search.proofs.relax.Statement.{statement}
 use Rattle.repair_search.proofs.relax.Tie as tie
 
 abbrev Inv-loop : tie.InvT-loop
-Inv-loop ends weights next heads dist₀ tree₀ n u d k₀ dist tree k = Relaxing n (adjacency ends weights next heads) u d dist₀ tree₀ k dist tree
+Inv-loop ends weights next heads n m dist₀ tree₀ u d k₀ dist tree k =
+    Relaxing n (adjacency ends weights next heads) (edgesAt (edgesIn m (adjacency ends weights next heads)) u) u d dist₀ tree₀ k dist tree
 
 abbrev μ-loop : tie.MeasureT-loop
-μ-loop ends weights next heads dist₀ tree₀ n u d k₀ dist tree k = k
+μ-loop ends weights next heads n m dist₀ tree₀ u d k₀ dist tree k = k
 
 abbrev graph : tie.Start Inv-loop μ-loop → Adjacency
 graph c = adjacency (c .args .ends .now) (c .args .weights .now) (c .args .next .now) (c .args .heads .now)
 
+-- the place before the loop
+abbrev start : tie.In-loop Inv-loop μ-loop → tie.Start Inv-loop μ-loop
+start c = c .before .before .before
+
 -- what is known of the arc that a turn looks at
-known : (c : tie.In-loop Inv-loop μ-loop) → Known (c .before .before .before .args .n) (graph (c .before .before .before)) (c .before .before .before .args .u) (c .before .loop .k)
-known c = relaxing-known (c .before .before .before .args .n) (graph (c .before .before .before)) (c .before .before .before .args .u) (c .before .before .before .args .d) _ _ (c .before .loop .k) (c .before .loop .dist) (c .before .loop .tree) (c .before .loop .inv) (c .before .before .before .pre .4) (c .loop-test .taken)
+known : (c : tie.In-loop Inv-loop μ-loop) → Known (start c .args .n) (graph (start c)) (edgesAt (edgesIn (start c .args .m) (graph (start c))) (start c .args .u)) (start c .args .u) (c .before .loop .k)
+known c =
+    let b = start c in
+    relaxing-known (b .args .n) (b .args .m) (graph b) (b .pre .1) (b .args .u) (b .pre .0 .0) (b .args .d) (b .pre .0 .1) (b .args .dist .now) (b .args .tree .now) (c .before .loop .k) (c .before .loop .dist) (c .before .loop .tree)
+    (c .before .loop .inv) (c .loop-test .taken)
 
 first-arc-requires : tie.Need-first-arc-requires Inv-loop μ-loop
-first-arc-requires c κs = search needs
+first-arc-requires c κs = omega (arith, c .pre .0 .0, c .pre .1 .edges .few-nodes)
 
 loop-holds : tie.Need-loop-holds Inv-loop μ-loop
-loop-holds c = subst (λ (k : ℕ). Relaxing (c .before .args .n) (graph (c .before)) (c .before .args .u) (c .before .args .d) (c .before .args .dist .now) (c .before .args .tree .now) k (c .before .args .dist .now) (c .before .args .tree .now)) (sym (c .first-arc .ensures)) (relaxing-begin (c .before .args .n) (graph (c .before)) (c .before .args .u) (c .before .args .d) _ _ (c .before .pre .3))
+loop-holds c =
+    let b = c .before in
+    subst (λ (k : ℕ). Relaxing (b .args .n) (graph b) (edgesAt (edgesIn (b .args .m) (graph b)) (b .args .u)) (b .args .u) (b .args .d) (b .args .dist .now) (b .args .tree .now) k (b .args .dist .now) (b .args .tree .now)) (sym (c .first-arc .ensures))
+    (relaxing-begin (b .args .n) (b .args .m) (graph b) (b .pre .1) (b .args .u) (b .pre .0 .0) (b .args .d) (b .pre .0 .1) (b .args .dist .now) (b .args .tree .now) (b .pre .0 .2))
 
 edge-number-requires : tie.Need-edge-number-requires Inv-loop μ-loop
 edge-number-requires c κs = known c .some
@@ -50,24 +64,35 @@ wide-requires c κs = search needs
 
 offer-requires : tie.Need-offer-requires Inv-loop μ-loop
 offer-requires c κs =
-    let K = known (c .before .before .before .before .before .before) in
-    (c .before .before .before .before .before .before .before .before .before .pre .0, omega (arith, K .to, c .before .before .wide .ensures), c .before .before .before .before .before .before .before .loop .inv .held, known-cost (c .before .before .before .before .before .before .before .before .before .args .n) (graph (c .before .before .before .before .before .before .before .before .before)) (c .before .before .before .before .before .before .before .before .before .args .u) (c .before .before .before .before .before .before .before .loop .k) (c .before .before .before .before .before .before .before .before .before .args .d) K (c .before .before .before .before .before .before .before .before .before .pre .2) _ (c .before .before .before .before .before .edge-number .ensures))
+    let l = c .before .before .before .before .before .before in
+    let b = start l in (
+      b .pre .1 .edges .few-nodes,
+      omega (arith, known l .to, c .before .before .wide .ensures),
+      l .before .loop .inv .held,
+      relaxing-cost (b .args .n) (b .args .m) (graph b) (b .pre .1) (b .args .u) (b .pre .0 .0) (b .args .d) (b .pre .0 .1) (b .args .dist .now) (b .args .tree .now) (l .before .loop .k) (l .before .loop .dist) (l .before .loop .tree)
+          (l .before .loop .inv) (l .loop-test .taken) _ (c .before .before .before .before .before .edge-number .ensures),
+    )
 
 next-arc-requires : tie.Need-next-arc-requires Inv-loop μ-loop
 next-arc-requires c κs =
-    let K = known (c .before .before .before .before .before .before .before) in
-    (K .some, K .within, omega (arith, c .before .before .before .before .before .before .before .before .before .before .pre .0, c .before .before .before .before .before .before .before .before .before .before .pre .1))
+    let l = c .before .before .before .before .before .before .before in
+    (known l .some, known l .within, omega (arith, start l .pre .0 .0, start l .pre .1 .edges .few-nodes))
 
 loop-less : tie.Need-loop-less Inv-loop μ-loop
 loop-less c = omega (arith, c .next-arc .ensures, known (c .before .before .before .before .before .before .before .before) .falls)
 
 loop-again : tie.Need-loop-again Inv-loop μ-loop
 loop-again c =
-    relaxing-turn (c .before .before .before .before .before .before .before .before .before .before .before .args .n) (graph (c .before .before .before .before .before .before .before .before .before .before .before)) (c .before .before .before .before .before .before .before .before .before .before .before .args .u) (c .before .before .before .before .before .before .before .before .before .before .before .args .d) (c .before .before .before .before .before .before .before .before .before .before .before .args .dist .now) (c .before .before .before .before .before .before .before .before .before .before .before .args .tree .now) (c .before .before .before .before .before .before .before .before .before .loop .k) (c .before .before .before .before .before .before .before .before .before .loop .dist) (c .before .before .before .before .before .before .before .before .before .loop .tree) (c .before .before .before .before .before .before .before .before .before .loop .inv) (c .before .before .before .before .before .before .before .before .loop-test .taken)
-    _ _ _ (c .before .before .before .before .before .before .before .edge-number .ensures) (c .before .before .before .before .wide .ensures) (c .next-arc .ensures) (c .before .offer .last .0) (c .before .offer .last .1 .0) (c .before .offer .ensures)
+    let l = c .before .before .before .before .before .before .before .before in
+    let b = start l in
+    relaxing-turn (b .args .n) (b .args .m) (graph b) (b .pre .1) (b .args .u) (b .pre .0 .0) (b .args .d) (b .pre .0 .1) (b .args .dist .now) (b .args .tree .now) (l .before .loop .k) (l .before .loop .dist) (l .before .loop .tree)
+    (l .before .loop .inv) (l .loop-test .taken) _ _ _ (c .before .before .before .before .before .before .before .edge-number .ensures) (c .before .before .before .before .wide .ensures) (c .next-arc .ensures)
+    (c .before .offer .last .0) (c .before .offer .last .1 .0) (c .before .offer .ensures)
 
 returns : tie.Need-returns Inv-loop μ-loop
-returns c = relaxing-end (c .before .before .before .args .n) (graph (c .before .before .before)) (c .before .before .before .args .u) (c .before .before .before .args .d) _ _ (c .before .loop .k) _ _ (c .before .loop .inv) (c .loop-test .left)
+returns c =
+    let b = c .before .before .before in
+    relaxing-end (b .args .n) (b .args .m) (graph b) (b .pre .1) (b .args .u) (b .pre .0 .0) (b .args .d) (b .pre .0 .1) (b .args .dist .now) (b .args .tree .now) (c .before .loop .k) _ _ (c .before .loop .inv) (c .loop-test .left)
 
 pub relax-spec : {M : Type 1} → statement M
 relax-spec =
