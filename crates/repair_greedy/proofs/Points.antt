@@ -30,9 +30,6 @@ pub held-most : (n : ℕ) (xs ys : List ℕ) → NodesHeld n xs ys → NodesHeld
 held-most n xs ys H = record { few = omega arith; xs-on = H .xs-on; ys-on = H .ys-on }
 
 module _ (n : ℕ) (w : List ℕ) (left : ℕ) (W : AreNodes n w left) where
-  pub nodes-most : n ≤ mostNodes → AreNodes mostNodes w left
-  nodes-most h = record { few = W .few; long = W .long; below = λ i l. omega (arith, W .below i l) }
-
   -- the last takes the place of the one at i
   pub nodes-removed : (i : ℕ) → i < left → AreNodes n (set w i (getD w (left - 1) 0)) (left - 1)
   nodes-removed i h = record {

@@ -1,8 +1,9 @@
 -- `repair_greedy::greedy_pairs` meets its contract. The invariant: the pairs that are written, and then those of the nodes that are left, are the definition's.
 use native.Mathlib.Omega.{arith}
 use Rattle.graph_arrays.specs.Arrays.{pointIn, nodesIn}
+use Rattle.graph_arrays.proofs.Arrays.{nodes-most}
 use Rattle.repair_greedy.specs.Bounds.{Bounds}
-use Rattle.repair_greedy.proofs.Points.{held-most, nodes-most}
+use Rattle.repair_greedy.proofs.Points.{held-most}
 use Rattle.repair_greedy.proofs.Bounds.{bounds-zero}
 use Rattle.repair_greedy.proofs.Rounds.{Writing, writing-start, writing-round, writing-end}
 use Rattle.repair_greedy.proofs.greedy_pairs.Statement.{statement}
