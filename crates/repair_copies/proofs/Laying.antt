@@ -1,32 +1,24 @@
--- Laws of specs/Laying.
+-- Copies laid along a path in the arrays, one by one: each is that of `lay`. Assumes nothing.
 use mathlib.Core.Path.{_≡_, refl, sym, ap, subst, _∙_}
-use mathlib.Core.Logic.{inl, inr}
 use mathlib.Core.List.{List, [], _∷_, _++_}
 use mathlib.Core.Bool.{Bool, true, false}
 use Prim.Native.Nat.{ℕ, suc, _+_, _-_, _≤_, _<_}
 use native.Mathlib.Numerals.{add-one}
 use native.Mathlib.Omega.{arith}
-use lib.ListN.{length, getD, drop, length-append, drop-of-length-le}
+use lib.ListN.{length, getD, drop, drop-of-length-le}
 use lib.Seq.{drop-cons}
-use lib.Dec.{eqb}
 use lib.Ieee.{Float, nan, binary64, add}
 use borrow.Author.Tests.{eq-eqb, ne-eqb}
-use Rattle.sums.specs.Key.{Nonneg}
-use Rattle.sums.proofs.Sum.{zero-nonneg}
-use Rattle.drawing_spec.proofs.Members.{in-append}
+use Rattle.limits.specs.Limits.{mostNodes, edgeRoom}
 use Rattle.graph_spec.specs.Graph.{Edge, edge, Arc, edgesAt}
-use Rattle.drawing_spec.specs.Members.{In}
-use Rattle.graph_adjacency.specs.Lists.{Adjacency, push, lists, firstArc, nextArc, edgeNumber, arcAt}
-use Rattle.graph_adjacency.specs.Follow.{Follows}
-use Rattle.graph_adjacency.proofs.Follow.{lists-push}
+use Rattle.graph_adjacency.specs.Lists.{Adjacency, push, nextArc, edgeNumber, arcAt}
+use Rattle.graph_arrays.specs.Arrays.{edgesIn, EdgesLinked}
+use Rattle.graph_arrays.proofs.Arrays.{pushed-edges, pushed-linked}
 use Rattle.repair_spec.specs.Distance.{zeroLength}
 use Rattle.repair_spec.specs.Retrace.{weightTo, Laid, lay, layPath}
 use Rattle.repair_spec.proofs.Copies.{copy, laid}
-use Rattle.repair_search.specs.Relaxing.{Fit}
-use Rattle.repair_search.specs.Search.{GraphOf}
-use Rattle.repair_search.proofs.Search.{follows-edges, fit-edges, arcs-of}
-use Rattle.repair_way_back.proofs.Along.{Looking, Known, looking-known, looking-here, looking-next, looking-end}
-use Rattle.repair_copies.specs.Laying.{LaidAlong, Stands, laidOf}
+use Rattle.repair_search.proofs.Along.{From, from-here, from-next, from-end}
+use Rattle.repair_copies.specs.Laying.{laidOf, copiesFrom}
 
 -- ---- the weight of a copy
 
@@ -43,46 +35,26 @@ weight-none : (v : ℕ) → weightTo v [] ≡ zeroLength
 unfolding weightTo
 weight-none v = refl
 
-weight-nonneg : (v : ℕ) (rs : List Arc) → ((r : Arc) → In r rs → Nonneg binary64 (r .weight)) → Nonneg binary64 (weightTo v rs)
-unfolding weightTo
-weight-nonneg v [] h = zero-nonneg binary64
-weight-nonneg v (r ∷ rs) h = go (eqb (r .to) v) (h r (inl refl)) (weight-nonneg v rs (λ q i. h q (inr i)))
-  where
-    go : (b : Bool) → Nonneg binary64 (r .weight) → Nonneg binary64 (weightTo v rs) → Nonneg binary64 (elim b [ true ↦ r .weight | false ↦ weightTo v rs ])
-    go true p q = p
-    go false p q = q
-
--- the weight of the first of u's arcs that leads to v, whatever arcs the list has
-abbrev pub IsWeight : Adjacency → ℕ → ℕ → Float → Type 0
-IsWeight g u v w = (rs : List Arc) → Follows g u (firstArc (g .heads) u) rs → Fit 1534 rs → w ≡ weightTo v rs
-
-module _ (g : Adjacency) (u v k : ℕ) (L : Looking (weightTo v) 1534 g u k) where
-  pub weight-here : (k ≡ 0 → ⊥) → getD (g .ends) (k - 1) 0 ≡ v → IsWeight g u v (getD (g .weights) (edgeNumber k) nan)
+-- as code looks for the first of u's arcs that leads to v, at the arc k
+module _ (a : Adjacency) (all : List Arc) (u v k : ℕ) (F : From (weightTo v) a all u k (weightTo v all)) where
+  pub weight-here : (k ≡ 0 → ⊥) → getD (a .ends) (k - 1) 0 ≡ v → getD (a .weights) (edgeNumber k) nan ≡ weightTo v all
   unfolding arcAt
-  weight-here h e rs s p =
-      let here = looking-here (weightTo v) 1534 g u k L h rs s p in
-      sym (weight-hit v (arcAt g k) (here .0) e) ∙ here .1
+  weight-here h e = let here = from-here (weightTo v) a all u k (weightTo v all) F h in sym (weight-hit v (arcAt a k) (here .0) e) ∙ here .1
 
-  pub weight-on : (k ≡ 0 → ⊥) → (getD (g .ends) (k - 1) 0 ≡ v → ⊥) → Looking (weightTo v) 1534 g u (nextArc (g .next) (g .heads) u k)
+  pub weight-on : (k ≡ 0 → ⊥) → (getD (a .ends) (k - 1) 0 ≡ v → ⊥) → From (weightTo v) a all u (nextArc (a .next) (a .heads) u k) (weightTo v all)
   unfolding arcAt
-  weight-on h e = looking-next (weightTo v) 1534 g u k L h (λ rs. weight-skip v (arcAt g k) rs e)
+  weight-on h e = from-next (weightTo v) a all u k (weightTo v all) F h (weightTo v) (λ rs. weight-skip v (arcAt a k) rs e)
 
-  pub weight-end : k ≡ 0 → IsWeight g u v zeroLength
-  weight-end h rs s p = sym (weight-none v) ∙ looking-end (weightTo v) 1534 g u k L h rs s p
+  pub weight-end : k ≡ 0 → zeroLength ≡ weightTo v all
+  weight-end h = sym (weight-none v) ∙ from-end (weightTo v) a all u k (weightTo v all) F h
 
--- what is laid up to the node at the place i: the rest of the path gives the same
-record SoFar (path : List ℕ) (all : Laid) (g : Adjacency) (i e : ℕ) (total : Float) : Type 0 where
-  now : Laid
-  graph : GraphOf 1534 (now .edges) g
-  count : length (now .edges) ≡ e
-  sum-is : now .sum ≡ total
-  rest : lay (getD path i 0) (drop (suc i) path) now ≡ all
-
-pub record Laying (path : List ℕ) (first m : ℕ) (sum : Float) (g₀ g : Adjacency) (i e : ℕ) (total : Float) : Type 0 where
+-- e edges are laid up to the node at the place i of the path: from there on the path lays what it is to lay in all
+pub record Laying (n : ℕ) (path : List ℕ) (first m : ℕ) (all : Laid) (a : Adjacency) (i e : ℕ) (total : Float) : Type 0 where
   pub from : first ≤ i
-  pub most : i < 1534
-  pub room : e + (1533 - i) ≤ 4001
-  so-far : (es : List Edge) → GraphOf 1534 es g₀ → length es ≡ m → SoFar path (layPath (drop first path) (laidOf es sum)) g i e total
+  pub most : i < mostNodes
+  pub count : e + copiesFrom i ≡ m + copiesFrom first
+  pub linked : EdgesLinked n e a
+  pub rest : lay (getD path i 0) (drop (suc i) path) (laidOf (edgesIn e a) total) ≡ all
 
 path-from : (path : List ℕ) (first : ℕ) (l : Laid) → first < length path → lay (getD path first 0) (drop (suc first) path) l ≡ layPath (drop first path) l
 unfolding layPath
@@ -96,99 +68,63 @@ lay-end : (u : ℕ) (l : Laid) → lay u [] l ≡ l
 unfolding lay
 lay-end u l = refl
 
-module _ (path : List ℕ) (long : length path ≡ 1534) (first m : ℕ) (sum : Float) (g₀ : Adjacency) where
-  pub laying-begin : first < 1534 → m + (1533 - first) ≤ 4001 → Laying path first m sum g₀ g₀ first m sum
-  laying-begin h r = record {
+module _ (n : ℕ) (path : List ℕ) (long : length path ≡ mostNodes) (first m : ℕ) (room : m + copiesFrom first ≤ edgeRoom) where
+  pub laying-begin : (a : Adjacency) (sum : Float) → first < mostNodes → EdgesLinked n m a → Laying n path first m (layPath (drop first path) (laidOf (edgesIn m a) sum)) a first m sum
+  laying-begin a sum h E = record {
     from = omega arith;
     most = h;
-    room = r;
-    so-far = λ es G c. record { now = laidOf es sum; graph = G; count = c; sum-is = refl; rest = path-from path first (laidOf es sum) (omega arith) };
+    count = refl;
+    linked = E;
+    rest = path-from path first (laidOf (edgesIn m a) sum) (omega arith);
   }
 
-  module _ (g : Adjacency) (i e : ℕ) (total : Float) (Y : Laying path first m sum g₀ g i e total) where
-    -- the arrays hold e edges
-    pub laying-stands : Stands m g₀ → Stands e g
-    laying-stands S = let F = Y .so-far (S .edges) (S .graph) (S .count) in record { edges = F .now .edges; graph = F .graph; count = F .count }
-
+  module _ (all : Laid) (a : Adjacency) (i e : ℕ) (total : Float) (Y : Laying n path first m all a i e total) where
     -- the same in other words
-    pub laying-moved : (g' : Adjacency) (e' : ℕ) (total' : Float) → g' ≡ g → e' ≡ e → total' ≡ total → Laying path first m sum g₀ g' i e' total'
-    laying-moved g' e' total' p q r =
-        subst (λ (x : Adjacency). Laying path first m sum g₀ x i e' total') (sym p)
-        (subst (λ (x : ℕ). Laying path first m sum g₀ g i x total') (sym q) (subst (λ (x : Float). Laying path first m sum g₀ g i e x) (sym r) Y))
+    pub laying-moved : (a' : Adjacency) (e' : ℕ) (total' : Float) → a' ≡ a → e' ≡ e → total' ≡ total → Laying n path first m all a' i e' total'
+    laying-moved a' e' total' p q r =
+        subst (λ (x : Adjacency). Laying n path first m all x i e' total') (sym p)
+        (subst (λ (x : ℕ). Laying n path first m all a i x total') (sym q) (subst (λ (x : Float). Laying n path first m all a i e x) (sym r) Y))
 
-    -- what code reads of an arc
-    pub laying-known : Stands m g₀ → (u v k : ℕ) → u < 1534 → Looking (weightTo v) 1534 g u k → (k ≡ 0 → ⊥) → Known 1534 g u k
-    laying-known S u v k l L h =
-        let T = laying-stands S in
-        looking-known (weightTo v) 1534 g u k L (arcs-of 1534 (omega arith) (T .edges) g (T .graph) u l) h
-
-    pub laying-end : (i + 1 < 1534 → ⊥) → LaidAlong path first m sum g₀ g total
-    laying-end h = record {
-      laid-is = λ es G c.
-          let F = Y .so-far es G c in
-          let all : length path ≤ suc i = omega (arith, Y .most) in
-          let done : F .now ≡ layPath (drop first path) (laidOf es sum) =
-          sym (lay-end (getD path i 0) (F .now)) ∙ ap (λ (vs : List ℕ). lay (getD path i 0) vs (F .now)) (sym (drop-of-length-le path all)) ∙ F .rest in
-          (F .graph .is ∙ ap (λ (l : Laid). lists (l .edges)) done, sym (F .sum-is) ∙ ap (λ (l : Laid). l .sum) done);
-    }
+    pub laying-end : (i + 1 < mostNodes → ⊥) → (laidOf (edgesIn (m + copiesFrom first) a) total ≡ all) × EdgesLinked n (m + copiesFrom first) a
+    laying-end h =
+        let whole : length path ≤ suc i = omega (arith, Y .most) in
+        let none : e ≡ m + copiesFrom first = omega (arith, Y .count, Y .most) in (
+          ap (λ (k : ℕ). laidOf (edgesIn k a) total) (sym none) ∙ sym (lay-end (getD path i 0) (laidOf (edgesIn e a) total))
+              ∙ ap (λ (vs : List ℕ). lay (getD path i 0) vs (laidOf (edgesIn e a) total)) (sym (drop-of-length-le path whole)) ∙ Y .rest,
+          subst (λ (k : ℕ). EdgesLinked n k a) none (Y .linked),
+        )
 
     -- a copy more
-    module _ (more : i + 1 < 1534) (inside : (j : ℕ) → first ≤ j → j < 1534 → getD path j 0 < 1534) (u v : ℕ) (isU : u ≡ getD path i 0) (isV : v ≡ getD path (i + 1) 0)
-        (w : Float) (W : IsWeight g u v w) (g' : Adjacency) (pushed : g' ≡ push e u v w g) where
-      u-inside : u < 1534
-      u-inside = rw isU (inside i (Y .from) (Y .most))
+    module _ (more : i + 1 < mostNodes) (u v : ℕ) (isU : u ≡ getD path i 0) (isV : v ≡ getD path (i + 1) 0) (hu : u < n) (hv : v < n)
+        (w : Float) (is : w ≡ weightTo v (edgesAt (edgesIn e a) u)) (a' : Adjacency) (pushed : a' ≡ push e u v w a) where
+      few : e < edgeRoom
+      few = omega (arith, Y .count)
 
-      v-inside : v < 1534
-      v-inside = rw isV (inside (i + 1) (omega (arith, Y .from)) more)
+      -- as the definition lays it
+      one-more : laidOf (edgesIn (e + 1) a') (add binary64 total w) ≡ laid u v (laidOf (edgesIn e a) total)
+      one-more =
+          ap (λ (k : ℕ). laidOf (edgesIn k a') (add binary64 total w)) (add-one e)
+          ∙ ap (λ (es : List Edge). laidOf es (add binary64 total w)) (pushed-edges n e u v w a a' (Y .linked) few hu hv pushed)
+          ∙ ap (λ (x : Float). laidOf (edgesIn e a ++ (edge u v x ∷ [])) (add binary64 total x)) is
 
-      one-more : (l : Laid) → GraphOf 1534 (l .edges) g → length (l .edges) ≡ e → (w ≡ weightTo v (edgesAt (l .edges) u)) → GraphOf 1534 (laid u v l .edges) g'
-      one-more l G c is =
-          let new = edge u v w in
-          let same : copy u v (l .edges) ≡ new = ap (edge u v) (sym is) in
-          let here : GraphOf 1534 (l .edges ++ (new ∷ [])) g' = record {
-            is = pushed ∙ ap (λ (x : Adjacency). push e u v w x) (G .is) ∙ ap (λ (k : ℕ). push k u v w (lists (l .edges))) (sym c) ∙ lists-push (l .edges) new;
-            few = omega (arith, length-append (l .edges) (new ∷ []), Y .room);
-            inside = λ f p. elim (in-append f (l .edges) (new ∷ []) p) [
-              | inl q ↦ G .inside f q
-              | inr q ↦ elim q [ inl k ↦ rw k (u-inside, v-inside) | inr k ↦ absurd k ]
-            ];
-            weights = λ f p. elim (in-append f (l .edges) (new ∷ []) p) [
-              | inl q ↦ G .weights f q
-              | inr q ↦ elim q [
-                | inl k ↦ subst (λ (x : Edge). Nonneg binary64 (x .weight)) (sym k)
-                    (subst (Nonneg binary64) (sym is) (weight-nonneg v (edgesAt (l .edges) u) (λ r j. fit-edges 1534 (omega arith) (l .edges) g G u r j .1)))
-                | inr k ↦ absurd k
-              ]
-            ];
-          } in
-          subst (λ (x : Edge). GraphOf 1534 (l .edges ++ (x ∷ [])) g') (sym same) here
-
-      pub laying-step : Laying path first m sum g₀ g' (i + 1) (e + 1) (add binary64 total w)
+      pub laying-step : Laying n path first m all a' (i + 1) (e + 1) (add binary64 total w)
       laying-step = record {
         from = omega (arith, Y .from);
         most = more;
-        room = omega (arith, Y .room);
-        so-far = λ es G c.
-            let F = Y .so-far es G c in
-            let l = F .now in
-            let is : w ≡ weightTo v (edgesAt (l .edges) u) =
-            W (edgesAt (l .edges) u) (follows-edges 1534 (omega arith) (l .edges) g (F .graph) u u-inside) (fit-edges 1534 (omega arith) (l .edges) g (F .graph) u) in
-            record {
-              now = laid u v l;
-              graph = one-more l (F .graph) (F .count) is;
-              count = omega (arith, length-append (l .edges) (copy u v (l .edges) ∷ []), F .count);
-              sum-is = ap (λ (x : Float). add binary64 x (weightTo v (edgesAt (l .edges) u))) (F .sum-is) ∙ ap (add binary64 total) (sym is);
-              rest =
-                  let place : suc i < length path = omega arith in
-                  let next : i + 1 ≡ suc i = add-one i in
-                  let at-v : v ≡ getD path (suc i) 0 = isV ∙ ap (λ (j : ℕ). getD path j 0) next in
-                  let vs = drop (suc (suc i)) path in
-                  ap (λ (j : ℕ). lay (getD path j 0) (drop (suc j) path) (laid u v l)) next
-                  ∙ ap (λ (x : ℕ). lay x vs (laid u v l)) (sym at-v)
-                  ∙ sym (lay-on u v vs l)
-                  ∙ ap (λ (x : ℕ). lay u (x ∷ vs) l) at-v
-                  ∙ ap (λ (xs : List ℕ). lay u xs l) (sym (drop-cons path (suc i) 0 place))
-                  ∙ ap (λ (x : ℕ). lay x (drop (suc i) path) l) isU
-                  ∙ F .rest;
-            };
+        count = omega (arith, Y .count);
+        linked = subst (λ (k : ℕ). EdgesLinked n k a') (sym (add-one e)) (pushed-linked n e u v w a a' (Y .linked) few hu hv pushed);
+        rest =
+            let l = laidOf (edgesIn e a) total in
+            let place : suc i < length path = omega arith in
+            let next : i + 1 ≡ suc i = add-one i in
+            let at-v : v ≡ getD path (suc i) 0 = isV ∙ ap (λ (j : ℕ). getD path j 0) next in
+            let vs = drop (suc (suc i)) path in
+            ap (λ (x : Laid). lay (getD path (i + 1) 0) (drop (suc (i + 1)) path) x) one-more
+            ∙ ap (λ (j : ℕ). lay (getD path j 0) (drop (suc j) path) (laid u v l)) next
+            ∙ ap (λ (x : ℕ). lay x vs (laid u v l)) (sym at-v)
+            ∙ sym (lay-on u v vs l)
+            ∙ ap (λ (x : ℕ). lay u (x ∷ vs) l) at-v
+            ∙ ap (λ (xs : List ℕ). lay u xs l) (sym (drop-cons path (suc i) 0 place))
+            ∙ ap (λ (x : ℕ). lay x (drop (suc i) path) l) isU
+            ∙ Y .rest;
       }

@@ -1,38 +1,56 @@
--- Laws of specs/Answer.
-use mathlib.Core.Path.{_≡_, refl, sym, subst, _∙_}
-use mathlib.Core.List.{List}
+-- Laws of specs/Answer: how the retrace of a pair ends, by what its path is. Assumes nothing.
+use mathlib.Core.Path.{_≡_, sym, ap, subst, _∙_}
+use mathlib.Core.List.{List, [], _∷_}
 use Prim.Native.Nat.{ℕ, _+_, _-_, _≤_, _<_}
 use native.Mathlib.Omega.{arith}
 use lib.ListN.{length, drop}
 use lib.Ieee.{Float}
+use Rattle.limits.specs.Limits.{mostNodes, mostEdges, refusedPath}
 use Rattle.graph_spec.specs.Graph.{Edge}
+use Rattle.graph_spec.specs.Weights.{Searchable}
 use Rattle.graph_adjacency.specs.Lists.{Adjacency}
-use Rattle.repair_spec.specs.Retrace.{found, error}
+use Rattle.graph_arrays.specs.Arrays.{edgesIn, EdgesLinked, EdgesHeld}
+use Rattle.graph_arrays.proofs.Arrays.{edges-count}
+use Rattle.repair_spec.specs.Retrace.{found, error, shortestPath, Laid, layPath}
 use Rattle.repair_spec.specs.Pairing.{pair}
-use Rattle.repair_early_exit.proofs.Laid.{path-count}
-use Rattle.repair_copies.specs.Laying.{laidOf, LaidAlong}
-use Rattle.repair_retrace.specs.Apply.{IsShortest}
-use Rattle.repair_retrace.proofs.Apply.{copies-are, pair-missing, pair-over, pair-done, in-room}
+use Rattle.repair_spec.specs.Repair.{Repairing, applyMatching}
+use Rattle.repair_early_exit.proofs.Laid.{retrace-searchable}
+use Rattle.repair_copies.specs.Laying.{laidOf, copiesFrom}
+use Rattle.repair_retrace.specs.Outcome.{done, under}
 use Rattle.repair_retrace.specs.declared.Applied.the-variants.{Repaired, Refused}
-use Rattle.repair_retrace.specs.Answer.{Gives, PairApplied}
+use Rattle.repair_retrace.specs.Answer.{Answers}
+use Rattle.repair_retrace.proofs.Outcome.{outcome-missing, outcome-over, outcome-laid}
+use Rattle.repair_retrace.proofs.Path.{copies-are}
 
--- ---- how the retrace of a pair ends
+module _ (most number n m s t : ℕ) (sum : Float) (a a' : Adjacency) where
+  abbrev es : List Edge
+  es = edgesIn m a
 
-module _ (most number n s t m : ℕ) (sum : Float) (g g' : Adjacency) (path : List ℕ) where
-  pub missing-gives : IsShortest n g s t path error → PairApplied most number n s t m sum g g' (Refused 12)
-  missing-gives W es H c = subst (Gives g' (Refused 12)) (sym (pair-missing most number n (pair s t) (laidOf es sum) (W .is es H))) refl
+  abbrev repair : Repairing
+  repair = applyMatching most number n (pair s t ∷ []) (under es sum)
 
-  module _ (first : ℕ) (W : IsShortest n g s t path (found (drop first path))) where
-    counted : (es : List Edge) → length es ≡ m → length es + (length (drop first path) - 1) ≡ m + (1533 - first)
-    counted es c = omega (arith, copies-are path first (W .long))
+  pub answers-missing : error ≡ shortestPath n es s t → Answers n repair (Refused refusedPath) a'
+  answers-missing h = record { is = outcome-missing most number n (pair s t) es sum h; held = tt }
 
-    pub over-gives : most < m + (1533 - first) → PairApplied most number n s t m sum g g' (Refused number)
-    over-gives h es H c =
-        subst (Gives g' (Refused number)) (sym (pair-over most number n (pair s t) (laidOf es sum) (drop first path) (W .is es H) (subst (λ (k : ℕ). most < k) (sym (counted es c)) h))) refl
+  module _ (path : List ℕ) (long : length path ≡ mostNodes) (first : ℕ) (is : found (drop first path) ≡ shortestPath n es s t) where
+    counted : length es + (length (drop first path) - 1) ≡ m + copiesFrom first
+    counted = omega (arith, copies-are path first long, edges-count m a)
 
-    pub done-gives : n ≤ 1534 → m + (1533 - first) ≤ most → (total : Float) → LaidAlong path first m sum g g' total → PairApplied most number n s t m sum g g' (Repaired total (m + (1533 - first)))
-    done-gives few h total L es H c =
-        let laid = L .laid-is es (in-room n es g few (H .graph)) c in
-        subst (Gives g' (Repaired total (m + (1533 - first))))
-        (sym (pair-done most number n (pair s t) (laidOf es sum) (drop first path) (W .is es H) (subst (λ (k : ℕ). k ≤ most) (sym (counted es c)) h)))
-        (laid .0, laid .1, sym (counted es c) ∙ sym (path-count (drop first path) (laidOf es sum)))
+    pub answers-over : most < m + copiesFrom first → Answers n repair (Refused number) a'
+    answers-over h = record { is = outcome-over most number n (pair s t) es sum (drop first path) is (subst (λ (k : ℕ). most < k) (sym counted) h); held = tt }
+
+    -- The copies are laid. A graph that can be searched is left so: what repair keeps.
+    module _ (few : most ≤ mostEdges) (H : EdgesHeld n m a) (fits : m + copiesFrom first ≤ most) (total : Float)
+        (laid : laidOf (edgesIn (m + copiesFrom first) a') total ≡ layPath (drop first path) (laidOf es sum)) (linked : EdgesLinked n (m + copiesFrom first) a') where
+      laid-held : EdgesHeld n (m + copiesFrom first) a'
+      laid-held = record {
+        edges = linked;
+        room = omega arith;
+        searchable = subst (Searchable n) (sym (ap (λ (l : Laid). l .edges) laid)) (retrace-searchable n (laidOf es sum) s t (drop first path) (sym is) (H .searchable));
+      }
+
+      pub answers-laid : Answers n repair (Repaired total (m + copiesFrom first)) a'
+      answers-laid = record {
+        is = ap done laid ∙ outcome-laid most number n (pair s t) es sum (drop first path) is (subst (λ (k : ℕ). k ≤ most) (sym counted) fits);
+        held = laid-held;
+      }

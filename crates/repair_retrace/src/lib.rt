@@ -1,24 +1,25 @@
 // Retraces: for each pair of nodes a copy of each edge along the shortest path between them, in the edges of
-// a graph in flat arrays (crates/adjacency).
+// a graph in flat arrays (crates/graph_adjacency).
 ghost use mathlib.Core.Path.{_≡_};
+ghost use mathlib.Core.List.{[], _∷_};
 ghost use Prim.Native.Nat.{ℕ, _<_, _≤_};
-ghost use Rattle.limits.specs.Limits.{mostNodes, edgeRoom, mostPairs};
-ghost use Rattle.graph_adjacency.specs.Lists.{adjacency};
 ghost use lib.ListN.{length, getD};
-ghost use Rattle.repair_search.specs.Search.{IsGraph};
-ghost use Rattle.repair_way_back.specs.Answer.{wayIn};
-ghost use Rattle.repair_retrace.specs.Apply.{Ready, IsShortest};
+ghost use Rattle.limits.specs.Limits.{mostNodes, mostEdges, mostPairs};
+ghost use Rattle.graph_adjacency.specs.Lists.{adjacency};
+ghost use Rattle.graph_arrays.specs.Arrays.{edgesIn, EdgesHeld};
+ghost use Rattle.repair_spec.specs.Retrace.{shortestPath};
+ghost use Rattle.repair_spec.specs.Pairing.{pair};
 ghost use Rattle.repair_spec.specs.PairsIn.{pairsIn};
-ghost use Rattle.repair_retrace.specs.Answer.{PairApplied, AllApplied};
+ghost use Rattle.repair_spec.specs.Repair.{applyMatching};
+ghost use Rattle.repair_way_back.specs.Answer.{wayIn};
+ghost use Rattle.repair_retrace.specs.Outcome.{under};
+ghost use Rattle.repair_retrace.specs.Answer.{Answers};
+use limits::ARC_ROOM;
 use limits::EDGE_ROOM;
 use limits::MOST_NODES;
+use limits::MOST_PAIRS;
+use limits::REFUSED_PATH;
 use repair_way_back::Way;
-
-// The pairs that so many nodes can make.
-pub const MOST_PAIRS: usize = MOST_NODES / 2;
-
-// Refusal 12: there is no path between the nodes of a pair.
-const REFUSED_PATH: u8 = 12;
 
 pub enum Applied {
     // the sum with the copies' weights, and the number of edges with the copies
@@ -29,74 +30,81 @@ pub enum Applied {
 
 // The shortest path from s to t, written into `path` as the way back writes it.
 pub fn shortest_path(
-    ends: &[u16; 2 * EDGE_ROOM],
+    ends: &[u16; ARC_ROOM],
     weights: &[f64; EDGE_ROOM],
-    next: &[u16; 2 * EDGE_ROOM],
+    next: &[u16; ARC_ROOM],
     heads: &[u16; 2 * MOST_NODES],
-    path: &mut [u16; MOST_NODES],
     n: usize,
+    m: usize,
+    path: &mut [u16; MOST_NODES],
     s: usize,
     t: usize,
 ) -> Way
-    requires { ⌜ (n ≤ mostNodes) × (s < n) × (t < n) × (length (now path) ≡ mostNodes) × IsGraph n (adjacency (now ends) (now weights) (now next) (now heads)) ⌝ }
-    ensures { λ r. ⌜ IsShortest n (adjacency (now (ends .entry)) (now (weights .entry)) (now (next .entry)) (now (heads .entry))) s t (now (path .exit)) (wayIn (now (path .exit)) r) ⌝ }
+    requires { ⌜ (s < n) × (t < n) × (length (now path) ≡ mostNodes) ⌝ }
+    requires { ⌜ EdgesHeld n m (adjacency (now ends) (now weights) (now next) (now heads)) ⌝ }
+    ensures way { λ r. ⌜ wayIn (now (path .exit)) r ≡ shortestPath n (edgesIn m (adjacency (now (ends .entry)) (now (weights .entry)) (now (next .entry)) (now (heads .entry)))) s t ⌝ }
+    ensures long { λ _. ⌜ length (now (path .exit)) ≡ mostNodes ⌝ }
 {
-    let found = repair_search::least_distances(ends, weights, next, heads, n, s, t);
+    let found = repair_search::least_distances(ends, weights, next, heads, n, m, s, t);
     let dist = found.at;
-    repair_way_back::way_back(ends, weights, next, heads, &dist, path, n, s, t)
+    repair_way_back::way_back(ends, weights, next, heads, n, m, &dist, path, s, t)
 }
 
-// The copies of one retrace, between the nodes `from` and `to`; refused with `number` where there would be more than `most`
-// edges, of which there are `edges` before. Nothing is laid where it is refused.
+// One retrace, between the nodes `from` and `to`: its copies laid, of which each weight is added to `sum`. Refused with
+// `number` where there would be more than `most` edges, which is known before a copy is laid. What the arrays hold after
+// a refusal is not said.
 pub fn apply_pair(
-    ends: &mut [u16; 2 * EDGE_ROOM],
+    ends: &mut [u16; ARC_ROOM],
     weights: &mut [f64; EDGE_ROOM],
-    next: &mut [u16; 2 * EDGE_ROOM],
+    next: &mut [u16; ARC_ROOM],
     heads: &mut [u16; 2 * MOST_NODES],
     n: usize,
+    m: usize,
     from: usize,
     to: usize,
-    edges: usize,
     sum: f64,
     most: usize,
     number: u8,
 ) -> Applied
-    requires { ⌜ (n ≤ mostNodes) × (from < n) × (to < n) × (most ≤ edgeRoom) × Ready n edges (adjacency (now ends) (now weights) (now next) (now heads)) ⌝ }
-    ensures { λ r. ⌜ PairApplied most number n from to edges sum (adjacency (now (ends .entry)) (now (weights .entry)) (now (next .entry)) (now (heads .entry))) (adjacency (now (ends .exit)) (now (weights .exit)) (now (next .exit)) (now (heads .exit))) r ⌝ }
+    requires { ⌜ (from < n) × (to < n) × (most ≤ mostEdges) ⌝ }
+    requires { ⌜ EdgesHeld n m (adjacency (now ends) (now weights) (now next) (now heads)) ⌝ }
+    ensures { λ r. ⌜ Answers n (applyMatching most number n (pair from to ∷ []) (under (edgesIn m (adjacency (now (ends .entry)) (now (weights .entry)) (now (next .entry)) (now (heads .entry)))) sum)) r (adjacency (now (ends .exit)) (now (weights .exit)) (now (next .exit)) (now (heads .exit))) ⌝ }
 {
     let mut path = [0; MOST_NODES];
-    let way = shortest_path(ends, weights, next, heads, &mut path, n, from, to);
+    let way = shortest_path(ends, weights, next, heads, n, m, &mut path, from, to);
     let Way::Found(first) = way else {
         return Applied::Refused(REFUSED_PATH);
     };
-    let count = edges + (MOST_NODES - 1 - first);
+    let count = m + (MOST_NODES - 1 - first);
     if most < count {
         return Applied::Refused(number);
     }
-    let total = repair_copies::lay_path(ends, weights, next, heads, &path, first, edges, sum);
+    let total = repair_copies::lay_path(ends, weights, next, heads, n, m, &path, first, sum);
     Applied::Repaired(total, count)
 }
 
-// The retraces of the pairs, one after the other, each on the graph as it then is.
+// The retraces of the pairs, one after the other, each on the graph as it then is. What the arrays hold after a refusal is
+// not said.
 pub fn apply_matching(
-    ends: &mut [u16; 2 * EDGE_ROOM],
+    ends: &mut [u16; ARC_ROOM],
     weights: &mut [f64; EDGE_ROOM],
-    next: &mut [u16; 2 * EDGE_ROOM],
+    next: &mut [u16; ARC_ROOM],
     heads: &mut [u16; 2 * MOST_NODES],
+    n: usize,
+    m: usize,
     firsts: &[u16; MOST_PAIRS],
     seconds: &[u16; MOST_PAIRS],
     pairs: usize,
-    n: usize,
-    edges: usize,
     sum: f64,
     most: usize,
     number: u8,
 ) -> Applied
-    requires { ⌜ (n ≤ mostNodes) × (most ≤ edgeRoom) × (pairs ≤ mostPairs) × ((j : ℕ) → j < pairs → (getD (now firsts) j 0 < n) × (getD (now seconds) j 0 < n)) × Ready n edges (adjacency (now ends) (now weights) (now next) (now heads)) ⌝ }
-    ensures { λ r. ⌜ AllApplied most number n (pairsIn (now (firsts .entry)) (now (seconds .entry)) 0 pairs) edges sum (adjacency (now (ends .entry)) (now (weights .entry)) (now (next .entry)) (now (heads .entry))) (adjacency (now (ends .exit)) (now (weights .exit)) (now (next .exit)) (now (heads .exit))) r ⌝ }
+    requires { ⌜ (most ≤ mostEdges) × (pairs ≤ mostPairs) × ((j : ℕ) → j < pairs → (getD (now firsts) j 0 < n) × (getD (now seconds) j 0 < n)) ⌝ }
+    requires { ⌜ EdgesHeld n m (adjacency (now ends) (now weights) (now next) (now heads)) ⌝ }
+    ensures { λ r. ⌜ Answers n (applyMatching most number n (pairsIn (now (firsts .entry)) (now (seconds .entry)) 0 pairs) (under (edgesIn m (adjacency (now (ends .entry)) (now (weights .entry)) (now (next .entry)) (now (heads .entry)))) sum)) r (adjacency (now (ends .exit)) (now (weights .exit)) (now (next .exit)) (now (heads .exit))) ⌝ }
 {
     let mut total = sum;
-    let mut count = edges;
+    let mut count = m;
     let mut i: usize = 0;
     while i < pairs {
         let from = widen::wide(firsts[i]);
@@ -107,18 +115,18 @@ pub fn apply_matching(
             next,
             heads,
             n,
+            count,
             from,
             to,
-            count,
             total,
             most,
             number,
         );
-        let Applied::Repaired(x, m) = step else {
+        let Applied::Repaired(x, k) = step else {
             return step;
         };
         total = x;
-        count = m;
+        count = k;
         i += 1;
     }
     Applied::Repaired(total, count)

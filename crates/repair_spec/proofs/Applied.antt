@@ -57,7 +57,7 @@ unfolding sumOver
 sum-snoc g xs y = omega (arith, sumOver-append g xs (y ∷ []))
 
 -- a walk that starts at one of the n nodes stays among them
-walk-inside : (n : ℕ) (es : List Edge) (u : ℕ) (vs : List ℕ) (t : ℕ) → Inside n es → u < n → Walks es u vs t → All (λ (v : ℕ). v < n) (u ∷ vs)
+pub walk-inside : (n : ℕ) (es : List Edge) (u : ℕ) (vs : List ℕ) (t : ℕ) → Inside n es → u < n → Walks es u vs t → All (λ (v : ℕ). v < n) (u ∷ vs)
 walk-inside n es u [] t h l w = (l, tt)
 walk-inside n es u (v ∷ vs) t h l w =
     let j = w .0 in

@@ -10,6 +10,7 @@ use lib.ListN.{length, set, replicate, length-set, length-replicate, getD-replic
 use lib.Seq.{getD-set-same, getD-set-other}
 use lib.Ieee.{Float, nan, binary64, lt}
 use borrow.Author.Tests.{ltb-true, ltb-false}
+use Rattle.limits.specs.Limits.{mostNodes}
 use Rattle.sums.specs.Key.{Nonneg, key}
 use Rattle.sums.proofs.KeyLaws.{lt-key, key-inj}
 use Rattle.sums.proofs.Sum.{inf-nonneg}
@@ -51,7 +52,7 @@ lesser-first x y h = ap (λ (b : Bool). pick b y x) h
 
 -- ---- the first place has the least
 
-module _ (n : ℕ) (t : List Float) (T : Tree n t) (few : n ≤ 1534) where
+module _ (n : ℕ) (t : List Float) (T : Tree n t) (few : n ≤ mostNodes) where
   -- no place has less than the one above it
   above : (i : ℕ) → 1 < i → i < n + n → key binary64 (at t (i / 2)) ≤ key binary64 (at t i)
   above i h l =
@@ -85,15 +86,15 @@ down-second n t i x T p l e h = sym (T .won i p l ∙ lesser-second _ _ h) ∙ e
 
 -- won at all places but i; the values, stored already, stay as in t
 pub record Storing (n v : ℕ) (x : Float) (t : List Float) (i : ℕ) (t' : List Float) : Type 0 where
-  pub long : length t' ≡ 3068
-  pub nonneg : (k : ℕ) → k < 3068 → Nonneg binary64 (at t' k)
+  pub long : length t' ≡ 2 * mostNodes
+  pub nonneg : (k : ℕ) → k < 2 * mostNodes → Nonneg binary64 (at t' k)
   pub below : i < n
   pub won : (j : ℕ) → 0 < j → j < n → (j ≡ i → ⊥) → Won t' j
   pub new : value n t' v ≡ x
   pub others : (w : ℕ) → (w ≡ v → ⊥) → value n t' w ≡ value n t w
 
 -- a store of a value that is not negative
-set-nonneg : (t : List Float) (i : ℕ) (x : Float) → ((k : ℕ) → k < 3068 → Nonneg binary64 (at t k)) → Nonneg binary64 x → i < length t → (k : ℕ) → k < 3068 → Nonneg binary64 (at (set t i x) k)
+set-nonneg : (t : List Float) (i : ℕ) (x : Float) → ((k : ℕ) → k < 2 * mostNodes → Nonneg binary64 (at t k)) → Nonneg binary64 x → i < length t → (k : ℕ) → k < 2 * mostNodes → Nonneg binary64 (at (set t i x) k)
 set-nonneg t i x g p l k h = elim (decLe k i) [
   | yes a ↦ elim (decLe i k) [
     | yes b ↦ let e : k ≡ i = le-antisymm a b in rw (e, getD-set-same t i x nan l) p
@@ -106,7 +107,7 @@ set-nonneg t i x g p l k h = elim (decLe k i) [
 won-other : (t : List Float) (i : ℕ) (x : Float) (j : ℕ) → (j ≡ i → ⊥) → (2 * j ≡ i → ⊥) → (2 * j + 1 ≡ i → ⊥) → Won t j → Won (set t i x) j
 won-other t i x j a b c w = rw (getD-set-other t i j x nan a, getD-set-other t i (2 * j) x nan b, getD-set-other t i (2 * j + 1) x nan c) w
 
-module _ (n v : ℕ) (x : Float) (t : List Float) (few : n ≤ 1534) (isValue : v < n) where
+module _ (n v : ℕ) (x : Float) (t : List Float) (few : n ≤ mostNodes) (isValue : v < n) where
   pub storing-begin : Tree n t → Nonneg binary64 x → Storing n v x (set t (n + v) x) ((n + v) / 2) (set t (n + v) x)
   storing-begin T p = record {
     long = length-set t (n + v) x ∙ T .long;
@@ -168,11 +169,11 @@ module _ (n v : ℕ) (x : Float) (t : List Float) (few : n ≤ 1534) (isValue : 
     }
 
 -- ---- nothing stored yet
-pub tree-none : (n : ℕ) → n ≤ 1534 → Tree n (replicate 3068 infinity)
+pub tree-none : (n : ℕ) → n ≤ mostNodes → Tree n (replicate (2 * mostNodes) infinity)
 tree-none n few = record {
-  long = length-replicate {A = Float} 3068 infinity;
-  nonneg = λ i h. rw (getD-replicate 3068 i infinity nan h) (inf-nonneg binary64);
-  won = λ j a l. rw (getD-replicate 3068 j infinity nan (omega arith), getD-replicate 3068 (2 * j) infinity nan (omega arith), getD-replicate 3068 (2 * j + 1) infinity nan (omega arith)) (equal-lesser (lt infinity infinity));
+  long = length-replicate {A = Float} (2 * mostNodes) infinity;
+  nonneg = λ i h. rw (getD-replicate (2 * mostNodes) i infinity nan h) (inf-nonneg binary64);
+  won = λ j a l. rw (getD-replicate (2 * mostNodes) j infinity nan (omega arith), getD-replicate (2 * mostNodes) (2 * j) infinity nan (omega arith), getD-replicate (2 * mostNodes) (2 * j + 1) infinity nan (omega arith)) (equal-lesser (lt infinity infinity));
 }
   where
     equal-lesser : (b : Bool) → infinity ≡ pick b infinity infinity

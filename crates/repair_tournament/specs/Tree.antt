@@ -6,6 +6,7 @@ use mathlib.Core.Bool.{Bool, true, false}
 use Prim.Native.Nat.{ℕ, _+_, _*_, _<_}
 use lib.ListN.{length, getD}
 use lib.Ieee.{Float, nan, inf, binary64, lt}
+use Rattle.limits.specs.Limits.{mostNodes}
 use Rattle.sums.specs.Key.{Nonneg}
 
 abbrev pub pick : Bool → Float → Float → Float
@@ -31,8 +32,8 @@ abbrev pub Won : List Float → ℕ → Type 0
 Won t j = at t j ≡ lesser (at t (2 * j)) (at t (2 * j + 1))
 
 pub record Tree (n : ℕ) (t : List Float) : Type 0 where
-  pub long : length t ≡ 3068
-  pub nonneg : (i : ℕ) → i < 3068 → Nonneg binary64 (at t i)
+  pub long : length t ≡ 2 * mostNodes
+  pub nonneg : (i : ℕ) → i < 2 * mostNodes → Nonneg binary64 (at t i)
   pub won : (j : ℕ) → 0 < j → j < n → Won t j
 
 -- x is stored as the value v, and the others stay

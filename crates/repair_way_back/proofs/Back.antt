@@ -1,4 +1,4 @@
--- Laws of specs/Back.
+-- The way back in the arrays, by its steps: each is that of `wayBack`. Assumes nothing.
 use mathlib.Core.Path.{_≡_, refl, sym, ap, subst, _∙_}
 use mathlib.Core.List.{List, [], _∷_}
 use mathlib.Core.Bool.{Bool, true, false, _&&_, _||_, not}
@@ -11,15 +11,15 @@ use lib.Seq.{drop-cons, drop-set-lt, getD-set-same, getD-set-other}
 use lib.Dec.{eqb}
 use lib.Ieee.{Float, nan}
 use borrow.Author.Tests.{eq-eqb, ne-eqb}
+use Rattle.limits.specs.Limits.{mostNodes}
 use Rattle.graph_spec.specs.Graph.{Edge, Arc, edgesAt}
 use Rattle.graph_adjacency.specs.Lists.{Adjacency, nextArc, edgeNumber, arcAt}
+use Rattle.graph_arrays.specs.Arrays.{edgesIn, EdgesLinked}
 use Rattle.repair_spec.specs.Distance.{infinity, distanceAt}
 use Rattle.repair_spec.specs.Retrace.{Step, to, none, Path, found, error, onWayBack, member, stepBack, wayBack}
 use Rattle.repair_search.proofs.OfferLaws.{getD-inside}
-use Rattle.repair_search.specs.Search.{GraphOf}
-use Rattle.repair_search.proofs.Search.{follows-edges, fit-edges}
-use Rattle.repair_way_back.proofs.Along.{Looking, Known, looking-here, looking-next, looking-end}
-use Rattle.repair_way_back.specs.Back.{IsWayBack, fitting}
+use Rattle.repair_search.proofs.Along.{From, Known, from-here, from-next, from-end}
+use Rattle.repair_way_back.specs.Back.{fitting}
 
 -- ---- laws of the definitions
 
@@ -79,11 +79,11 @@ module _ (ends : List ℕ) (weights ds : List Float) (seen : List Bool) (v k u :
 
 -- the nodes seen are those on the way
 abbrev Marked : List Bool → List ℕ → Type 0
-Marked seen visited = (u : ℕ) → u < 1534 → getD seen u false ≡ member u visited
+Marked seen visited = (u : ℕ) → u < mostNodes → getD seen u false ≡ member u visited
 
-marked-none : Marked (replicate 1534 false) []
+marked-none : Marked (replicate mostNodes false) []
 unfolding member
-marked-none u l = getD-replicate 1534 u false false l
+marked-none u l = getD-replicate mostNodes u false false l
 
 marked-more : (seen : List Bool) (visited : List ℕ) (v : ℕ) → v < length seen → Marked seen visited → Marked (set seen v true) (v ∷ visited)
 unfolding member
@@ -100,8 +100,8 @@ marked-more seen visited v h m u l = elim (decLe u v) [
     other : (u ≡ v → ⊥) → getD (set seen v true) u false ≡ (eqb u v || member u visited)
     other q = getD-set-other seen v u true false q ∙ m u l ∙ sym (ap (λ (b : Bool). b || member u visited) (ne-eqb u v q))
 
-fitting-is : (g : Adjacency) (ds : List Float) (seen : List Bool) (visited : List ℕ) (v k : ℕ) → length ds ≡ 1534 → Marked seen visited → v < 1534
-    → getD (g .ends) (k - 1) 0 < 1534 → fitting (g .ends) (g .weights) ds seen v k ≡ test ds (distanceAt ds v) visited (arcAt g k)
+fitting-is : (g : Adjacency) (ds : List Float) (seen : List Bool) (visited : List ℕ) (v k : ℕ) → length ds ≡ mostNodes → Marked seen visited → v < mostNodes
+    → getD (g .ends) (k - 1) 0 < mostNodes → fitting (g .ends) (g .weights) ds seen v k ≡ test ds (distanceAt ds v) visited (arcAt g k)
 unfolding fitting arcAt
 fitting-is g ds seen visited v k long m hv hu =
     let u = getD (g .ends) (k - 1) 0 in
@@ -110,40 +110,43 @@ fitting-is g ds seen visited v k long m hv hu =
     ∙ ap (λ (d : Float). not (member u visited) && onWayBack d w (getD ds v nan)) (getD-inside ds u nan infinity (omega arith))
     ∙ ap (λ (d : Float). not (member u visited) && onWayBack (distanceAt ds u) w d) (getD-inside ds v nan infinity (omega arith))
 
--- at the node v; the nodes after it stand in `path` from the place `at` on
-pub record Going (n : ℕ) (g : Adjacency) (ds : List Float) (s t v at : ℕ) (path : List ℕ) (seen : List Bool) : Type 0 where
+-- at the node v; the nodes after it stand in `path` from the place `at` on, and the way back from v is the one from t
+pub record Going (n : ℕ) (es : List Edge) (ds : List Float) (s t v at : ℕ) (path : List ℕ) (seen : List Bool) : Type 0 where
   pub isNode : v < n
-  pub most : at ≤ 1534
-  pub path-long : length path ≡ 1534
-  pub seen-long : length seen ≡ 1534
+  pub most : at ≤ mostNodes
+  pub path-long : length path ≡ mostNodes
+  pub seen-long : length seen ≡ mostNodes
   pub marked : Marked seen (drop at path)
-  pub rest : (es : List Edge) → GraphOf n es g → wayBack (at - (1534 - n)) es ds s v (drop at path) ≡ wayBack n es ds s t []
+  pub rest : wayBack (at - (mostNodes - n)) es ds s v (drop at path) ≡ wayBack n es ds s t []
 
-module _ (n : ℕ) (few : n ≤ 1534) (g : Adjacency) (ds : List Float) (long : length ds ≡ 1534) (s t : ℕ) where
-  pub going-begin : t < n → (path : List ℕ) → length path ≡ 1534 → Going n g ds s t t 1534 path (replicate 1534 false)
+module _ (n m : ℕ) (a : Adjacency) (E : EdgesLinked n m a) (ds : List Float) (long : length ds ≡ mostNodes) (s t : ℕ) where
+  abbrev es : List Edge
+  es = edgesIn m a
+
+  abbrev few : n ≤ mostNodes
+  few = E .few-nodes
+
+  pub going-begin : t < n → (path : List ℕ) → length path ≡ mostNodes → Going n es ds s t t mostNodes path (replicate mostNodes false)
   going-begin l path p =
-      let none-yet : drop 1534 path ≡ [] = (let all : length path ≤ 1534 = omega arith in drop-of-length-le path all) in
-      let steps : 1534 - (1534 - n) ≡ n = omega arith in
+      let none-yet : drop mostNodes path ≡ [] = (let all : length path ≤ mostNodes = omega arith in drop-of-length-le path all) in
+      let steps : mostNodes - (mostNodes - n) ≡ n = omega (arith, few) in
       record {
         isNode = l;
         most = omega arith;
         path-long = p;
-        seen-long = length-replicate 1534 false;
-        marked = subst (Marked (replicate 1534 false)) (sym none-yet) marked-none;
-        rest = λ es G. ap (λ (k : ℕ). wayBack k es ds s t (drop 1534 path)) steps ∙ ap (wayBack n es ds s t) none-yet;
+        seen-long = length-replicate mostNodes false;
+        marked = subst (Marked (replicate mostNodes false)) (sym none-yet) marked-none;
+        rest = ap (λ (k : ℕ). wayBack k es ds s t (drop mostNodes path)) steps ∙ ap (wayBack n es ds s t) none-yet;
       }
 
-  module _ (v at : ℕ) (path : List ℕ) (seen : List Bool) (W : Going n g ds s t v at path seen) where
-    pub going-end : at ≤ 1534 - n → IsWayBack n g ds s t path error
+  module _ (v at : ℕ) (path : List ℕ) (seen : List Bool) (W : Going n es ds s t v at path seen) where
+    pub going-end : at ≤ mostNodes - n → error ≡ wayBack n es ds s t []
     going-end h =
-        let no-steps : at - (1534 - n) ≡ 0 = omega arith in
-        record {
-          long = W .path-long;
-          is = λ es G. sym (way-end es ds s v (drop at path)) ∙ ap (λ (k : ℕ). wayBack k es ds s v (drop at path)) (sym no-steps) ∙ W .rest es G;
-        }
+        let no-steps : at - (mostNodes - n) ≡ 0 = omega arith in
+        sym (way-end es ds s v (drop at path)) ∙ ap (λ (k : ℕ). wayBack k es ds s v (drop at path)) (sym no-steps) ∙ W .rest
 
     -- a step more: v is written down, and marked
-    module _ (more : 1534 - n < at) where
+    module _ (more : mostNodes - n < at) where
       place : at - 1 < length path
       place = omega (arith, W .path-long, W .most)
 
@@ -156,54 +159,49 @@ module _ (n : ℕ) (few : n ≤ 1534) (g : Adjacency) (ds : List Float) (long : 
           ∙ ap (λ (x : ℕ). x ∷ drop (suc (at - 1)) p') (getD-set-same path (at - 1) v 0 place)
           ∙ ap (λ (x : List ℕ). v ∷ x) (drop-set-lt (suc (at - 1)) path (at - 1) v (omega arith) ∙ ap (λ (m : ℕ). drop m path) next)
 
-      still-long : length (set path (at - 1) v) ≡ 1534
-      still-long = length-set path (at - 1) v ∙ W .path-long
+      pub going-long : length (set path (at - 1) v) ≡ mostNodes
+      going-long = length-set path (at - 1) v ∙ W .path-long
 
       -- what is left, by one step
-      on : (es : List Edge) → GraphOf n es g → wayBack (suc (at - 1 - (1534 - n))) es ds s v (drop at path) ≡ wayBack n es ds s t []
-      on es G = let steps : suc (at - 1 - (1534 - n)) ≡ at - (1534 - n) = omega arith in ap (λ (k : ℕ). wayBack k es ds s v (drop at path)) steps ∙ W .rest es G
+      on : wayBack (suc (at - 1 - (mostNodes - n))) es ds s v (drop at path) ≡ wayBack n es ds s t []
+      on = let steps : suc (at - 1 - (mostNodes - n)) ≡ at - (mostNodes - n) = omega arith in ap (λ (k : ℕ). wayBack k es ds s v (drop at path)) steps ∙ W .rest
 
-      pub going-here : v ≡ s → IsWayBack n g ds s t (set path (at - 1) v) (found (drop (at - 1) (set path (at - 1) v)))
-      going-here h = record { long = still-long; is = λ es G. ap found written ∙ sym (way-here es ds s (at - 1 - (1534 - n)) v (drop at path) h) ∙ on es G }
+      pub going-here : v ≡ s → found (drop (at - 1) (set path (at - 1) v)) ≡ wayBack n es ds s t []
+      going-here h = ap found written ∙ sym (way-here es ds s (at - 1 - (mostNodes - n)) v (drop at path) h) ∙ on
 
       seen-more : Marked (set seen v true) (drop (at - 1) (set path (at - 1) v))
-      seen-more = subst (Marked (set seen v true)) (sym written) (marked-more seen (drop at path) v (omega (arith, W .seen-long, W .isNode)) (W .marked))
+      seen-more = subst (Marked (set seen v true)) (sym written) (marked-more seen (drop at path) v (omega (arith, W .seen-long, W .isNode, few)) (W .marked))
 
       -- along the arcs of v
       abbrev pub step-from : List Arc → Step
       step-from = stepBack ds (distanceAt ds v) (drop (at - 1) (set path (at - 1) v))
 
-      module _ (away : v ≡ s → ⊥) (k : ℕ) (L : Looking step-from n g v k) where
-        by-step : (es : List Edge) → GraphOf n es g → (p : Step) → step-from (edgesAt es v) ≡ p
-            → elim p [ to u ↦ wayBack (at - 1 - (1534 - n)) es ds s u (v ∷ drop at path) | none ↦ error ] ≡ wayBack n es ds s t []
-        by-step es G p e =
-            sym (way-on es ds s (at - 1 - (1534 - n)) v (drop at path) away p (ap (λ (x : List ℕ). stepBack ds (distanceAt ds v) x (edgesAt es v)) (sym written) ∙ e)) ∙ on es G
+      module _ (away : v ≡ s → ⊥) (k : ℕ) (F : From step-from a (edgesAt es v) v k (step-from (edgesAt es v))) where
+        by-step : (p : Step) → step-from (edgesAt es v) ≡ p → elim p [ to u ↦ wayBack (at - 1 - (mostNodes - n)) es ds s u (v ∷ drop at path) | none ↦ error ] ≡ wayBack n es ds s t []
+        by-step p e =
+            sym (way-on es ds s (at - 1 - (mostNodes - n)) v (drop at path) away p (ap (λ (x : List ℕ). stepBack ds (distanceAt ds v) x (edgesAt es v)) (sym written) ∙ e)) ∙ on
 
-        pub going-none : k ≡ 0 → IsWayBack n g ds s t (set path (at - 1) v) error
-        going-none h = record {
-          long = still-long;
-          is = λ es G. by-step es G none
-              (sym (looking-end step-from n g v k L h (edgesAt es v) (follows-edges n few es g G v (W .isNode)) (fit-edges n few es g G v)) ∙ step-none ds (distanceAt ds v) _);
-        }
+        pub going-none : k ≡ 0 → error ≡ wayBack n es ds s t []
+        going-none h = by-step none (sym (from-end step-from a (edgesAt es v) v k _ F h) ∙ step-none ds (distanceAt ds v) _)
 
-        module _ (some : k ≡ 0 → ⊥) (K : Known n g v k) where
-          arc-test : fitting (g .ends) (g .weights) ds (set seen v true) v k ≡ test ds (distanceAt ds v) (drop (at - 1) (set path (at - 1) v)) (arcAt g k)
-          arc-test = fitting-is g ds (set seen v true) _ v k long seen-more (omega (arith, W .isNode)) (omega (arith, K .to))
+        module _ (some : k ≡ 0 → ⊥) (K : Known n a (edgesAt es v) v k) where
+          arc-test : fitting (a .ends) (a .weights) ds (set seen v true) v k ≡ test ds (distanceAt ds v) (drop (at - 1) (set path (at - 1) v)) (arcAt a k)
+          arc-test = fitting-is a ds (set seen v true) _ v k long seen-more (omega (arith, W .isNode, few)) (omega (arith, K .to, few))
 
-          pub going-skip : fitting (g .ends) (g .weights) ds (set seen v true) v k ≡ false → Looking step-from n g v (nextArc (g .next) (g .heads) v k)
-          going-skip h = looking-next step-from n g v k L some (λ rs. step-skip ds (distanceAt ds v) _ (arcAt g k) rs (sym arc-test ∙ h))
+          pub going-skip : fitting (a .ends) (a .weights) ds (set seen v true) v k ≡ false → From step-from a (edgesAt es v) v (nextArc (a .next) (a .heads) v k) (step-from (edgesAt es v))
+          going-skip h = from-next step-from a (edgesAt es v) v k _ F some step-from (λ rs. step-skip ds (distanceAt ds v) _ (arcAt a k) rs (sym arc-test ∙ h))
 
-          pub going-on : fitting (g .ends) (g .weights) ds (set seen v true) v k ≡ true
-              → Going n g ds s t (getD (g .ends) (k - 1) 0) (at - 1) (set path (at - 1) v) (set seen v true)
+          pub going-on : fitting (a .ends) (a .weights) ds (set seen v true) v k ≡ true
+              → Going n es ds s t (getD (a .ends) (k - 1) 0) (at - 1) (set path (at - 1) v) (set seen v true)
           unfolding arcAt
           going-on h = record {
             isNode = K .to;
             most = omega (arith, W .most);
-            path-long = still-long;
+            path-long = going-long;
             seen-long = length-set seen v true ∙ W .seen-long;
             marked = seen-more;
-            rest = λ es G.
-                let here = looking-here step-from n g v k L some (edgesAt es v) (follows-edges n few es g G v (W .isNode)) (fit-edges n few es g G v) in
-                ap (wayBack (at - 1 - (1534 - n)) es ds s (getD (g .ends) (k - 1) 0)) written
-                ∙ by-step es G (to (getD (g .ends) (k - 1) 0)) (sym (here .1) ∙ step-hit ds (distanceAt ds v) _ (arcAt g k) (here .0) (sym arc-test ∙ h));
+            rest =
+                let here = from-here step-from a (edgesAt es v) v k _ F some in
+                ap (wayBack (at - 1 - (mostNodes - n)) es ds s (getD (a .ends) (k - 1) 0)) written
+                ∙ by-step (to (getD (a .ends) (k - 1) 0)) (sym (here .1) ∙ step-hit ds (distanceAt ds v) _ (arcAt a k) (here .0) (sym arc-test ∙ h));
           }

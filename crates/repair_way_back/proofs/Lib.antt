@@ -1,4 +1,3 @@
 -- Laws of the definitions in specs/.
-pub mod Along
 pub mod Back
 pub mod Near

@@ -1,14 +1,16 @@
 // The way back from a node to the start of a search, by the distances that the search found, in the edges
-// of a graph in flat arrays (crates/adjacency).
+// of a graph in flat arrays (crates/graph_adjacency).
 ghost use mathlib.Core.Path.{_≡_};
+ghost use mathlib.Core.List.{[]};
 ghost use Prim.Native.Nat.{_-_, _<_, _≤_};
 ghost use lib.ListN.{length, getD};
 ghost use Rattle.limits.specs.Limits.{mostNodes, edgeRoom, arcRoom};
 ghost use Rattle.graph_adjacency.specs.Lists.{adjacency, edgeNumber};
-ghost use Rattle.repair_search.specs.Search.{IsGraph};
-ghost use Rattle.repair_spec.specs.Retrace.{onWayBack};
-ghost use Rattle.repair_way_back.specs.Back.{fitting, IsWayBack};
+ghost use Rattle.graph_arrays.specs.Arrays.{edgesIn, EdgesLinked};
+ghost use Rattle.repair_spec.specs.Retrace.{onWayBack, wayBack};
+ghost use Rattle.repair_way_back.specs.Back.{fitting};
 ghost use Rattle.repair_way_back.specs.Answer.{wayIn};
+use limits::ARC_ROOM;
 use limits::EDGE_ROOM;
 use limits::MOST_NODES;
 
@@ -26,7 +28,7 @@ pub fn on_way_back(d: f64, w: f64, c: f64) -> bool
 
 // Whether the arc k of the node v leads to a node that is not seen yet and on the way back from v.
 fn fits(
-    ends: &[u16; 2 * EDGE_ROOM],
+    ends: &[u16; ARC_ROOM],
     weights: &[f64; EDGE_ROOM],
     dist: &[f64; MOST_NODES],
     seen: &[bool; MOST_NODES],
@@ -55,18 +57,21 @@ pub enum Way {
 // of its edges, that is not yet on the way and from which the edge makes up the distance. The nodes are
 // written into `path` from its end.
 pub fn way_back(
-    ends: &[u16; 2 * EDGE_ROOM],
+    ends: &[u16; ARC_ROOM],
     weights: &[f64; EDGE_ROOM],
-    next: &[u16; 2 * EDGE_ROOM],
+    next: &[u16; ARC_ROOM],
     heads: &[u16; 2 * MOST_NODES],
+    n: usize,
+    m: usize,
     dist: &[f64; MOST_NODES],
     path: &mut [u16; MOST_NODES],
-    n: usize,
     s: usize,
     t: usize,
 ) -> Way
-    requires { ⌜ (n ≤ mostNodes) × (t < n) × (length (now dist) ≡ mostNodes) × (length (now path) ≡ mostNodes) × IsGraph n (adjacency (now ends) (now weights) (now next) (now heads)) ⌝ }
-    ensures { λ r. ⌜ IsWayBack n (adjacency (now (ends .entry)) (now (weights .entry)) (now (next .entry)) (now (heads .entry))) (now (dist .entry)) s t (now (path .exit)) (wayIn (now (path .exit)) r) ⌝ }
+    requires { ⌜ (t < n) × (length (now dist) ≡ mostNodes) × (length (now path) ≡ mostNodes) ⌝ }
+    requires { ⌜ EdgesLinked n m (adjacency (now ends) (now weights) (now next) (now heads)) ⌝ }
+    ensures way { λ r. ⌜ wayIn (now (path .exit)) r ≡ wayBack n (edgesIn m (adjacency (now (ends .entry)) (now (weights .entry)) (now (next .entry)) (now (heads .entry)))) (now (dist .entry)) s t [] ⌝ }
+    ensures long { λ _. ⌜ length (now (path .exit)) ≡ mostNodes ⌝ }
 {
     let mut seen = [false; MOST_NODES];
     let last = MOST_NODES - n;

@@ -1,4 +1,4 @@
--- `copies::weight_of` meets its contract. Assumes nothing.
+-- `repair_copies::weight_of` meets its contract. Assumes nothing.
 use mathlib.Core.Path.{ap}
 use Prim.Native.Nat.{ℕ}
 use lib.ListN.{getD}
@@ -10,19 +10,15 @@ use Rattle.repair_copies.proofs.weight_of.Reads as reads
 use Rattle.repair_copies.proofs.weight_of.Lts as lts
 use Rattle.graph_adjacency.proofs.edge_number.Reads as edge-number-reads
 
--- src/lib.rt:22:9
 edge-number-requires : tie.Need-edge-number-requires
 edge-number-requires c κs = search needs
 
--- src/lib.rt:23:5
 mul-result : tie.Need-mul-result
 mul-result c = search needs
 
--- src/lib.rt:23:5
 element-copy-out-result : tie.Need-element-copy-out-result
 element-copy-out-result c = search needs
 
--- src/lib.rt:18:1
 returns : tie.Need-returns
 returns c = ap (λ (e : ℕ). getD (c .before .before .args .weights .now) e nan) (c .before .edge-number .ensures)
 

@@ -1,28 +1,25 @@
--- `retrace::shortest_path` meets its contract. Assumes nothing.
-use borrow.Author.Needs.{needs}
+-- `repair_retrace::shortest_path` meets its contract. Assumes nothing.
+use mathlib.Core.Path.{_∙_}
 use Rattle.graph_adjacency.specs.Lists.{adjacency}
-use Rattle.repair_retrace.proofs.Apply.{way-shortest}
+use Rattle.graph_arrays.specs.Arrays.{edgesIn}
+use Rattle.repair_retrace.proofs.Path.{found-shortest}
 use Rattle.repair_retrace.proofs.shortest_path.Statement.{statement}
 use Rattle.repair_retrace.proofs.shortest_path.Tie as tie
-use Rattle.repair_retrace.proofs.shortest_path.Reads as reads
-use Rattle.repair_retrace.proofs.shortest_path.Lts as lts
-use Rattle.repair_search.proofs.least_distances.Reads as least-distances-reads
-use Rattle.repair_way_back.proofs.way_back.Reads as way-back-reads
 
--- src/lib.rt:42:9
 least-distances-requires : tie.Need-least-distances-requires
-least-distances-requires c κs = search needs
+least-distances-requires c κs = (c .pre .0 .0, c .pre .1)
 
--- src/lib.rt:44:5
 way-back-requires : tie.Need-way-back-requires
-way-back-requires c κs = search needs
+way-back-requires c κs =
+    let f = c .before .before .before in
+    ((f .before .pre .0 .1, f .least-distances .ensures .long, f .before .pre .0 .2), f .before .pre .1 .edges)
 
--- src/lib.rt:29:1
 returns : tie.Need-returns
 returns c =
     let f = c .before .before .before .before in
-    let a = f .before .args in
-    way-shortest (a .n) (adjacency (a .ends .now) (a .weights .now) (a .next .now) (a .heads .now)) (a .s) (a .t) (f .before .pre .1) (f .least-distances .result .at) (f .least-distances .ensures) _ _ (c .way-back .ensures)
+    let b = f .before in
+    let es = edgesIn (b .args .m) (adjacency (b .args .ends .now) (b .args .weights .now) (b .args .next .now) (b .args .heads .now)) in
+    (c .way-back .ensures .0 ∙ found-shortest (b .args .n) es (b .pre .1 .searchable) (b .args .s) (b .args .t) (b .pre .0 .0) (f .least-distances .result .at) (f .least-distances .ensures), c .way-back .ensures .1)
 
 pub shortest-path-spec : {M : Type 1} → statement M
 shortest-path-spec = tie.close (tie.spec least-distances-requires way-back-requires returns)

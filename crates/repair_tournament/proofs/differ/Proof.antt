@@ -1,4 +1,4 @@
--- `tournament::differ` meets its contract. Assumes nothing.
+-- `repair_tournament::differ` meets its contract. Assumes nothing.
 use mathlib.Core.Bool.{true≢false}
 use Rattle.repair_tournament.proofs.Tree.{equal}
 use Rattle.repair_tournament.proofs.differ.Statement.{statement}

@@ -1,4 +1,4 @@
--- `tournament::infinity` meets its contract. Assumes nothing.
+-- `repair_tournament::infinity` meets its contract. Assumes nothing.
 use borrow.Author.Needs.{needs}
 use lib.Ieee.{nanBits, ofBits}
 use Rattle.repair_tournament.proofs.infinity.Statement.{statement}

@@ -1,4 +1,4 @@
--- `tournament::lesser` meets its contract. Assumes nothing.
+-- `repair_tournament::lesser` meets its contract. Assumes nothing.
 use mathlib.Core.Path.{sym}
 use Rattle.repair_tournament.proofs.Tree.{lesser-first, lesser-second}
 use Rattle.repair_tournament.proofs.lesser.Statement.{statement}

@@ -1,9 +1,10 @@
--- `tournament::store` meets its contract. Assumes nothing.
+-- `repair_tournament::store` meets its contract. Assumes nothing.
 use mathlib.Core.Path.{_∙_}
-use Prim.Native.Nat.{_<_}
+use Prim.Native.Nat.{_<_, _*_}
 use native.Mathlib.Omega.{arith}
 use borrow.Author.Needs.{needs}
 use borrow.Author.Tests.{not-true}
+use Rattle.limits.specs.Limits.{mostNodes}
 use Rattle.repair_tournament.proofs.Tree.{lesser-nonneg, Storing, storing-begin, storing-step, storing-end, storing-same, stored-since}
 use Rattle.repair_tournament.proofs.store.Statement.{statement}
 use Rattle.repair_tournament.proofs.store.Tie as tie
@@ -59,7 +60,7 @@ element-copy-out-differ c = search needs
 differ-requires : tie.Need-differ-requires Inv-loop μ-loop
 differ-requires c κs =
     let S = c .before .before .before .before .before .loop .inv in
-    let low : c .before .before .before .before .before .loop .i < 3068 = omega (arith, S .below, c .before .before .before .before .before .before .pre .0) in
+    let low : c .before .before .before .before .before .loop .i < 2 * mostNodes = omega (arith, S .below, c .before .before .before .before .before .before .pre .0) in
     (S .nonneg _ low, rw (c .before .lesser .ensures) (lesser-nonneg _ _ (S .nonneg _ (omega (arith, S .below, c .before .before .before .before .before .before .pre .0))) (S .nonneg _ (omega (arith, S .below, c .before .before .before .before .before .before .pre .0)))))
 
 returns : tie.Need-returns Inv-loop μ-loop
