@@ -24,7 +24,8 @@ use Rattle.graph_lines.specs.All.{StartsInside}
 use Rattle.graph_filing.specs.Stored.{store, storeLinks, LowPoints, LinksFit}
 use Rattle.graph_filed.proofs.Ends.{noStore, filed-all}
 use Rattle.graph_filed.proofs.Starts.{startsOf, pointsOf, starts-inside, links-fit, low-points}
-use Rattle.graph.specs.Whole.{Built, movesIn}
+use Rattle.graph.specs.Whole.{movesIn}
+use Rattle.graph.specs.Built.{Built}
 use Rattle.graph.proofs.Whole.{filingIn, ends-few, all-ok, distances-in, all-ready, all-built}
 use Rattle.graph.specs.Sound.{Sound}
 
@@ -132,6 +133,6 @@ module _ (d : Drawing) (S : Sound d) (hs ns ds xs ys : List ℕ) (e : store hs n
   ready-held = subst (λ (v : View). Ready (viewMoves v) (viewState v)) (sym same-view) (all-ready (drawingFrom d) (S .counts) (S .links-fit) (S .lines-on) (S .links-on))
 
   pub built-held : (s : Traced) → s ≡ tracedAlong origin (movesIn (filing (keyed ds xs ys) ns hs) (points (d .xs) (d .ys)) (d .starts) (d .lines) (d .«link_count»)) (traced t a 0 0 0)
-      → Built (buildGraph (drawingFrom d)) (s .table) (s .edges) (s .nodeCount) (s .edgeCount)
+      → Built (buildGraph (drawingFrom d)) (s .nodeCount) (s .edgeCount) (s .table .xs) (s .table .ys) (s .edges)
   unfolding one two
   built-held s h = all-built (drawingFrom d) (S .counts) (S .links-fit) (S .lines-on) (S .links-on) s (h ∙ ap (λ (v : View). tracedAlong origin (viewMoves v) (viewState v)) same-view)

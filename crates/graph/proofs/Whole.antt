@@ -24,7 +24,7 @@ use Rattle.graph_moves.specs.Moves.{Move, along}
 use Rattle.graph_moves.proofs.Moves.{endOf, noGraph, linesMoves, linkMoves, movesOf}
 use Rattle.graph_moves.proofs.Built.{uses-of, stands-of, build-along}
 use Rattle.graph_moves.specs.Room.{Room}
-use Rattle.graph_bounds.proofs.Bounds.{built-room}
+use Rattle.graph_counts.proofs.Nodes.{counted-few}
 use Rattle.graph_strokes.specs.Step.{Traced, traced, TracedTo}
 use Rattle.graph_strokes.proofs.StepLaws.{traced-none}
 use Rattle.graph_chain.specs.Along.{tracedAlong, Traceable, Low}
@@ -35,7 +35,9 @@ use Rattle.graph_filed.proofs.Ends.{number, endX, endY, filingOf}
 use Rattle.graph_filed.proofs.Chains.{all-distances, chain-same}
 use Rattle.graph_filed.proofs.Starts.{startsOf, pointsOf, LinkOk, links-ok, ends-below, ends-named, segment-below}
 use Rattle.graph_filed.proofs.Same.{lines-same, links-same}
-use Rattle.graph.specs.Whole.{Built, movesIn}
+use Rattle.graph.specs.Whole.{movesIn}
+use Rattle.graph.specs.Built.{Built}
+use Rattle.graph.proofs.Built.{traced-built}
 
 -- nothing is drawn yet
 abbrev pub nothing : Traced
@@ -94,7 +96,7 @@ module _ (d : Drawing) (c : Counts d) (fit : linksFit d ≡ true) where
       so-far = noGraph;
       held = traced-none origin;
       stands = stands-of [] origin d;
-      room = subst Room (sym (build-along d origin)) (built-room d c);
+      room = subst Room (sym (build-along d origin)) (let few = counted-few d c in (few .nodes, omega (arith, few .edges)));
       here = (zero-le, zero-le);
       places = subst (All Low) (sym (uses-of d)) (uses-of-all Low d (all-imp (All OnGrid) (All Low) (λ l a. all-imp OnGrid Low on-low l a) (d .lines) lo)
           (all-imp (AtEnds OnGrid) (AtEnds Low) (λ k a. (on-low (k .first .point) (a .0), on-low (k .second .point) (a .1))) (d .links) ko));
@@ -104,11 +106,11 @@ module _ (d : Drawing) (c : Counts d) (fit : linksFit d ≡ true) where
     all-ready = record { place = origin; traceable = subst (λ (ms : List Move). Traceable origin ms nothing) (sym moves-are) traceable }
 
     pub all-built : (s : Traced) → s ≡ tracedAlong origin (movesIn (filingIn d) (pointsOf (d .lines)) (startsOf (d .lines)) (length (d .lines)) (length (d .links))) nothing
-        → Built (buildGraph d) (s .table) (s .edges) (s .nodeCount) (s .edgeCount)
+        → Built (buildGraph d) (s .nodeCount) (s .edgeCount) (s .table .xs) (s .table .ys) (s .edges)
     unfolding traceable
     all-built s e =
         let h : TracedTo (along origin (movesOf d) noGraph .nodes) (along origin (movesOf d) noGraph .edges) (endOf origin (movesOf d)) (tracedAlong origin (movesOf d) nothing) = held-along origin (movesOf d) nothing traceable in
         let h₂ : TracedTo (buildGraph d .nodes) (buildGraph d .edges) (endOf origin (movesOf d)) s =
         subst (TracedTo (buildGraph d .nodes) (buildGraph d .edges) (endOf origin (movesOf d))) (sym (e ∙ ap (λ (ms : List Move). tracedAlong origin ms nothing) moves-are))
         (subst (λ (g : Graph). TracedTo (g .nodes) (g .edges) (endOf origin (movesOf d)) (tracedAlong origin (movesOf d) nothing)) (build-along d origin) h) in
-        record { nodes-held = h₂ .nodes-held; nodes-counted = h₂ .nodes-counted; edges-held = h₂ .edges-held; edges-counted = h₂ .edges-counted }
+        traced-built d c lo ko (endOf origin (movesOf d)) s h₂

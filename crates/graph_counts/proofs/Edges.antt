@@ -10,7 +10,6 @@ use borrow.Author.Tests.{eqb-true, eqb-false, ne-eqb}
 use Rattle.drawing_spec.specs.Drawing.{Point, same, End, Link, Drawing}
 use Rattle.drawing_spec.proofs.Members.{either}
 use Rattle.drawing_spec.specs.Read.{total}
-use Rattle.drawing_spec.specs.Accepted.{Counts}
 use Rattle.graph_spec.specs.Chain.{squared, stroke, naming, splits, insert, sort, inner, changes, distinct, chain, pieces, linePieces, piecesFrom, piecesOf, linkStrokes, linksOf, strokesOf}
 use Rattle.graph_spec.specs.Graph.{edgeOf, buildGraph}
 use Rattle.graph_spec.specs.Degree.{one}
@@ -214,7 +213,3 @@ pub edges-few : (d : Drawing) → length (buildGraph d .edges) ≤ pointsOf d - 
 unfolding buildGraph piecesOf linksOf
 edges-few d =
     omega (arith, length-map (strokesOf d) (edgeOf (buildGraph d .nodes)), length-append (piecesOf d) (linksOf d), lines-length (d .links) 0 (d .lines), splits-few (d .links) 0 (d .lines), links-length (d .links))
-
--- after check 6
-pub edges-1788 : (d : Drawing) → Counts d → length (buildGraph d .edges) ≤ 1788
-edges-1788 d c = omega (arith, edges-few d, c .points, c .links)

@@ -5,6 +5,7 @@ use mathlib.Core.List.{List, [], _∷_, _++_, map}
 use Prim.Native.Nat.{ℕ, suc, _+_, _-_, _*_, _≤_, _<_, suc-le-suc}
 use native.Mathlib.Omega.{arith}
 use lib.ListN.{length, length-append}
+use Rattle.limits.specs.Limits.{mostNodes, mostPoints, mostLinks}
 use Rattle.drawing_spec.specs.Drawing.{Point, End, Link, Drawing}
 use Rattle.drawing_spec.specs.Members.{In, All}
 use Rattle.drawing_spec.proofs.Members.{all-in, in-all, in-left}
@@ -18,7 +19,7 @@ use Rattle.graph_spec.specs.Graph.{pointAt, buildGraph}
 use Rattle.graph_spec.proofs.Nodes.{distinct, uses-all}
 use Rattle.graph_spec.proofs.Strokes.{uses-of-all}
 use Rattle.graph_spec.proofs.Built.{built-numbered}
-use Rattle.graph_counts.proofs.Edges.{pointsOf, edges-1788}
+use Rattle.graph_counts.proofs.Edges.{pointsOf, edges-few}
 
 -- ---- different elements of a list are at most as many as it has
 
@@ -122,20 +123,21 @@ nodes-few d =
       ends-length (d .links),
     )
 
--- after check 6
-pub nodes-1534 : (d : Drawing) → Counts d → length (buildGraph d .nodes) ≤ 1534
-nodes-1534 d c = omega (arith, nodes-few d, c .points, c .links)
+-- ---- after checks 1 to 8
 
--- the graph of any file that passes checks 1 to 8
+-- 1,788
+abbrev pub mostDrawn : ℕ
+mostDrawn = mostPoints - 1 + 3 * mostLinks
+
 pub record Few (d : Drawing) : Type 0 where
-  pub nodes : length (buildGraph d .nodes) ≤ 1534
-  pub edges : length (buildGraph d .edges) ≤ 1788
+  pub nodes : length (buildGraph d .nodes) ≤ mostNodes
+  pub edges : length (buildGraph d .edges) ≤ mostDrawn
+
+pub counted-few : (d : Drawing) → Counts d → Few d
+counted-few d c = record { nodes = omega (arith, nodes-few d, c .points, c .links); edges = omega (arith, edges-few d, c .points, c .links) }
 
 pub accepted-few : (file : List ℕ) → verdict (readConditions file) ≡ accepted → Few (drawingOf (recordsOf file))
-accepted-few file e =
-    let d = drawingOf (recordsOf file) in
-    let c = counts-fit d (accepted-fits file e .counts) in
-    record { nodes = nodes-1534 d c; edges = edges-1788 d c }
+accepted-few file e = let d = drawingOf (recordsOf file) in counted-few d (counts-fit d (accepted-fits file e .counts))
 
 -- ---- worked example: a line of two points with a link between two places on it reaches both bounds
 

@@ -16,7 +16,7 @@ use Rattle.drawing_spec.specs.Drawing.{Point, same}
 use Rattle.drawing_spec.proofs.Same.{same-true, same-false, differ}
 use Rattle.graph_spec.specs.Graph.{find, nodeOf, getOrInsert}
 use Rattle.graph_spec.proofs.Nodes.{front, behind, neither}
-use Rattle.graph_nodes.specs.Table.{Table, noNodes, hashOf, pick, isAt, seek, foundIn, inserted, numberIn, tableWith, countWith}
+use Rattle.graph_nodes.specs.Table.{Table, bucketCount, HasRoom, noNodes, hashOf, pick, isAt, seek, foundIn, inserted, numberIn, tableWith, countWith}
 use Rattle.graph_nodes.proofs.Table.{seek-hit, seek-on, seek-none, number-found, number-new, with-found, with-new}
 use Rattle.graph_nodes.specs.Held.{Held, Inside, answer}
 
@@ -24,7 +24,7 @@ inside-more : (m k : ℕ) → Inside m k → Inside (suc m) k
 inside-more m k (inl h) = inl (omega arith)
 inside-more m k (inr h) = inr h
 
-hash-below : (x y : ℕ) → hashOf x y < 2039
+hash-below : (x y : ℕ) → hashOf x y < bucketCount
 unfolding hashOf
 hash-below x y = mod-lt _ (lit< tt)
 
@@ -34,11 +34,11 @@ held-none = record {
   room = omega arith;
   xs-are = refl;
   ys-are = refl;
-  next-long = length-replicate {A = ℕ} 1534 1534;
-  buckets-long = length-replicate {A = ℕ} 2039 1534;
+  next-long = length-replicate {A = ℕ} mostNodes mostNodes;
+  buckets-long = length-replicate {A = ℕ} bucketCount mostNodes;
   next-inside = λ j h. absurd (not-suc-le-zero h);
-  buckets-inside = λ b h. inr (omega (arith, getD-replicate {A = ℕ} 2039 b 1534 0 h));
-  found = λ p fuel h. seek-none _ _ _ (p .x) (p .y) fuel _ (omega (arith, getD-replicate {A = ℕ} 2039 (hashOf (p .x) (p .y)) 1534 0 (hash-below (p .x) (p .y))));
+  buckets-inside = λ b h. inr (omega (arith, getD-replicate {A = ℕ} bucketCount b mostNodes 0 h));
+  found = λ p fuel h. seek-none _ _ _ (p .x) (p .y) fuel _ (omega (arith, getD-replicate {A = ℕ} bucketCount (hashOf (p .x) (p .y)) mostNodes 0 (hash-below (p .x) (p .y))));
 }
 
 -- ---- one node more
@@ -51,15 +51,15 @@ map-behind : (f : Point → ℕ) (ns : List Point) (p : Point) → map f ns ++ (
 map-behind f [] p = refl
 map-behind f (n ∷ ns) p = ap (λ (l : List ℕ). f n ∷ l) (map-behind f ns p)
 
-filled : (f : Point → ℕ) (ns : List Point) (p : Point) (l : List ℕ) → l ≡ sets (replicate 1534 0) 0 (map f ns)
-    → set l (length ns) (f p) ≡ sets (replicate 1534 0) 0 (map f (ns ++ (p ∷ [])))
+filled : (f : Point → ℕ) (ns : List Point) (p : Point) (l : List ℕ) → l ≡ sets (replicate mostNodes 0) 0 (map f ns)
+    → set l (length ns) (f p) ≡ sets (replicate mostNodes 0) 0 (map f (ns ++ (p ∷ [])))
 filled f ns p l e =
     let at : length ns ≡ 0 + length (map f ns) = omega (arith, length-map ns f) in
-    ap (λ (k : List ℕ). set k (length ns) (f p)) e ∙ ap (λ (k : ℕ). set (sets (replicate 1534 0) 0 (map f ns)) k (f p)) at
-    ∙ sets-behind (replicate 1534 0) 0 (map f ns) (f p) ∙ ap (sets (replicate 1534 0) 0) (map-behind f ns p)
+    ap (λ (k : List ℕ). set k (length ns) (f p)) e ∙ ap (λ (k : ℕ). set (sets (replicate mostNodes 0) 0 (map f ns)) k (f p)) at
+    ∙ sets-behind (replicate mostNodes 0) 0 (map f ns) (f p) ∙ ap (sets (replicate mostNodes 0) 0) (map-behind f ns p)
 
-long : (f : Point → ℕ) (ns : List Point) (l : List ℕ) → l ≡ sets (replicate 1534 0) 0 (map f ns) → length l ≡ 1534
-long f ns l e = ap length e ∙ length-sets (replicate 1534 0) 0 (map f ns) ∙ length-replicate {A = ℕ} 1534 0
+long : (f : Point → ℕ) (ns : List Point) (l : List ℕ) → l ≡ sets (replicate mostNodes 0) 0 (map f ns) → length l ≡ mostNodes
+long f ns l e = ap length e ∙ length-sets (replicate mostNodes 0) 0 (map f ns) ∙ length-replicate {A = ℕ} mostNodes 0
 
 -- the answer for another point than the new one
 answer-kept : (ns : List Point) (p q : Point) → same p q ≡ false → answer ns p ≡ answer (ns ++ (q ∷ [])) p
@@ -131,7 +131,7 @@ module _ (t : Table) (ns : List Point) (H : Held t ns) (q : Point) (new : length
       let low : hashOf (q .x) (q .y) < length (t .buckets) = omega (arith, hash-below (q .x) (q .y), H .buckets-long) in
       ap (λ (k : ℕ). getD (set (t .buckets) (hashOf (q .x) (q .y)) (length ns)) k 0) e ∙ getD-set-same (t .buckets) (hashOf (q .x) (q .y)) (length ns) 0 low
 
-  buckets-now : (b : ℕ) → b < 2039 → Inside (suc (length ns)) (getD (set (t .buckets) (hashOf (q .x) (q .y)) (length ns)) b 0)
+  buckets-now : (b : ℕ) → b < bucketCount → Inside (suc (length ns)) (getD (set (t .buckets) (hashOf (q .x) (q .y)) (length ns)) b 0)
   buckets-now b h = go (eqb b (hashOf (q .x) (q .y))) refl
     where
       go : (e : Bool) → eqb b (hashOf (q .x) (q .y)) ≡ e → Inside (suc (length ns)) (getD (set (t .buckets) (hashOf (q .x) (q .y)) (length ns)) b 0)
@@ -226,9 +226,21 @@ get-or-insert t ns p H r = go (ltb (nodeOf ns p) (length ns)) refl r
         let high : mostNodes ≤ foundIn (length ns) (p .x) (p .y) t = omega arith in
         let fits : length ns < mostNodes = omega (arith, length-append ns (p ∷ [])) in
         let new = ltb-false (nodeOf ns p) (length ns) e in (
-          number-new (length ns) (p .x) (p .y) t high fits ∙ sym (behind ns p new),
-          subst (λ (u : Table). Held u (ns ++ (p ∷ []))) (sym (with-new (length ns) (p .x) (p .y) t high fits)) (held-new t ns H p new fits),
+          number-new (length ns) (p .x) (p .y) t high ∙ sym (behind ns p new),
+          subst (λ (u : Table). Held u (ns ++ (p ∷ []))) (sym (with-new (length ns) (p .x) (p .y) t high)) (held-new t ns H p new fits),
         )
+
+-- where the list of nodes fits, there is room for each of its points
+pub held-room : (t : Table) (ns : List Point) (p : Point) → Held t ns → length (getOrInsert ns p) ≤ mostNodes → HasRoom (length ns) (p .x) (p .y) t
+unfolding getOrInsert
+held-room t ns p H r = go (ltb (nodeOf ns p) (length ns)) refl r
+  where
+    is : foundIn (length ns) (p .x) (p .y) t ≡ answer ns p
+    is = H .found p (length ns) (omega arith)
+
+    go : (b : Bool) → ltb (nodeOf ns p) (length ns) ≡ b → length {A = Point} (elim b [ true ↦ ns | false ↦ ns ++ (p ∷ []) ]) ≤ mostNodes → HasRoom (length ns) (p .x) (p .y) t
+    go true e r = inl (omega (arith, is ∙ ap (λ (b : Bool). pick b (nodeOf ns p) mostNodes) e, ltb-true (nodeOf ns p) (length ns) e, H .room))
+    go false e r = inr (omega (arith, length-append ns (p ∷ [])))
 
 -- the number of nodes with the point
 pub counted : (ns : List Point) (p : Point) → countWith (length ns) (nodeOf (getOrInsert ns p) p) ≡ length (getOrInsert ns p)

@@ -1,14 +1,16 @@
 -- Laws of specs/Table.
 use mathlib.Core.Path.{_≡_, refl, sym, ap, _∙_}
 use Prim.Native.Nat.{ℕ, zero, suc, _+_, _-_, _≤_, _<_}
+use mathlib.Core.Logic.{inl, inr}
 use mathlib.Core.List.{List}
 use mathlib.Core.Bool.{Bool, true, false, _&&_}
 use lib.ListN.{getD, set}
 use lib.Dec.{eqb, ltb}
 use borrow.Author.Tests.{lt-ltb, le-ltb, eq-eqb, ne-eqb}
+use native.Mathlib.Decide.{decLe}
 use native.Mathlib.Omega.{arith}
 use Rattle.limits.specs.Limits.{mostNodes}
-use Rattle.graph_nodes.specs.Table.{Table, countWith, foundIn, hashOf, inserted, isAt, numberIn, pick, pickTable, seek, table, tableWith}
+use Rattle.graph_nodes.specs.Table.{HasRoom, Table, countWith, foundIn, hashOf, inserted, isAt, numberIn, pick, pickTable, seek, table, tableWith}
 
 pub count-new : (n number : ℕ) → number ≡ n → countWith n number ≡ n + 1
 unfolding countWith
@@ -59,38 +61,34 @@ pub inserted-is : (n x y h : ℕ) (t : Table) → h ≡ hashOf x y
 unfolding inserted
 inserted-is n x y h t e = ap (λ (k : ℕ). table (set (t .xs) n x) (set (t .ys) n y) (set (t .next) n (getD (t .buckets) k 0)) (set (t .buckets) k n)) e
 
--- ---- laws of the three cases
+-- ---- laws of the two cases
 
 module _ (n x y : ℕ) (t : Table) where
   pub number-found : foundIn n x y t < mostNodes → numberIn n x y t ≡ foundIn n x y t
   unfolding numberIn
-  number-found h = ap (λ (b : Bool). pick b (foundIn n x y t) (pick (ltb n mostNodes) n mostNodes)) (lt-ltb _ _ h)
+  number-found h = ap (λ (b : Bool). pick b (foundIn n x y t) n) (lt-ltb _ _ h)
 
-  pub number-new : mostNodes ≤ foundIn n x y t → n < mostNodes → numberIn n x y t ≡ n
+  pub number-new : mostNodes ≤ foundIn n x y t → numberIn n x y t ≡ n
   unfolding numberIn
-  number-new h f =
-      ap (λ (b : Bool). pick b (foundIn n x y t) (pick (ltb n mostNodes) n mostNodes)) (le-ltb _ _ h) ∙ ap (λ (b : Bool). pick b n mostNodes) (lt-ltb n mostNodes f)
-
-  pub number-full : mostNodes ≤ foundIn n x y t → mostNodes ≤ n → numberIn n x y t ≡ mostNodes
-  unfolding numberIn
-  number-full h f =
-      ap (λ (b : Bool). pick b (foundIn n x y t) (pick (ltb n mostNodes) n mostNodes)) (le-ltb _ _ h) ∙ ap (λ (b : Bool). pick b n mostNodes) (le-ltb n mostNodes f)
+  number-new h = ap (λ (b : Bool). pick b (foundIn n x y t) n) (le-ltb _ _ h)
 
   pub with-found : foundIn n x y t < mostNodes → tableWith n x y t ≡ t
   unfolding tableWith
-  with-found h = ap (λ (b : Bool). pickTable b t (pickTable (ltb n mostNodes) (inserted n x y t) t)) (lt-ltb _ _ h)
+  with-found h = ap (λ (b : Bool). pickTable b t (inserted n x y t)) (lt-ltb _ _ h)
 
-  pub with-new : mostNodes ≤ foundIn n x y t → n < mostNodes → tableWith n x y t ≡ inserted n x y t
+  pub with-new : mostNodes ≤ foundIn n x y t → tableWith n x y t ≡ inserted n x y t
   unfolding tableWith
-  with-new h f =
-      ap (λ (b : Bool). pickTable b t (pickTable (ltb n mostNodes) (inserted n x y t) t)) (le-ltb _ _ h) ∙ ap (λ (b : Bool). pickTable b (inserted n x y t) t) (lt-ltb n mostNodes f)
+  with-new h = ap (λ (b : Bool). pickTable b t (inserted n x y t)) (le-ltb _ _ h)
 
-  pub with-full : mostNodes ≤ foundIn n x y t → mostNodes ≤ n → tableWith n x y t ≡ t
-  unfolding tableWith
-  with-full h f =
-      ap (λ (b : Bool). pickTable b t (pickTable (ltb n mostNodes) (inserted n x y t) t)) (le-ltb _ _ h) ∙ ap (λ (b : Bool). pickTable b (inserted n x y t) t) (le-ltb n mostNodes f)
+  room-new : HasRoom n x y t → mostNodes ≤ foundIn n x y t → n < mostNodes
+  room-new (inl f) h = absurd (omega arith)
+  room-new (inr f) h = f
 
--- what the three ways through the code answer
+  -- the answer is a node
+  pub number-low : HasRoom n x y t → numberIn n x y t < mostNodes
+  number-low r = elim (decLe (suc (foundIn n x y t)) mostNodes) [ yes h ↦ omega (arith, number-found h) | no h ↦ let high : mostNodes ≤ foundIn n x y t = omega arith in omega (arith, number-new high, room-new r high) ]
+
+-- what the two ways through the code answer
 module _ (n x y : ℕ) (t : Table) (h start found : ℕ) (hh : h ≡ hashOf x y) (hs : start ≡ getD (t .buckets) h 0)
     (hf : found ≡ seek n (t .xs) (t .ys) (t .next) x y start) where
   found-is : found ≡ foundIn n x y t
@@ -99,8 +97,8 @@ module _ (n x y : ℕ) (t : Table) (h start found : ℕ) (hh : h ≡ hashOf x y)
   pub old-node : found < mostNodes → (found ≡ numberIn n x y t) × (t ≡ tableWith n x y t)
   old-node f = let low : foundIn n x y t < mostNodes = omega (arith, found-is) in (found-is ∙ sym (number-found n x y t low), sym (with-found n x y t low))
 
-  pub no-room : mostNodes ≤ found → mostNodes ≤ n → (mostNodes ≡ numberIn n x y t) × (t ≡ tableWith n x y t)
-  no-room f m = let high : mostNodes ≤ foundIn n x y t = omega (arith, found-is) in (sym (number-full n x y t high m), sym (with-full n x y t high m))
+  pub room-left : mostNodes ≤ found → HasRoom n x y t → n < mostNodes
+  room-left f r = room-new n x y t r (omega (arith, found-is))
 
-  pub new-node : mostNodes ≤ found → n < mostNodes → (t' : Table) → t' ≡ inserted n x y t → (n ≡ numberIn n x y t) × (t' ≡ tableWith n x y t)
-  new-node f m t' e = let high : mostNodes ≤ foundIn n x y t = omega (arith, found-is) in (sym (number-new n x y t high m), e ∙ sym (with-new n x y t high m))
+  pub new-node : mostNodes ≤ found → (t' : Table) → t' ≡ inserted n x y t → (n ≡ numberIn n x y t) × (t' ≡ tableWith n x y t)
+  new-node f t' e = let high : mostNodes ≤ foundIn n x y t = omega (arith, found-is) in (sym (number-new n x y t high), e ∙ sym (with-new n x y t high))

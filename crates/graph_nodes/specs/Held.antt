@@ -9,7 +9,7 @@ use lib.Dec.{ltb}
 use Rattle.limits.specs.Limits.{mostNodes}
 use Rattle.drawing_spec.specs.Drawing.{Point}
 use Rattle.graph_spec.specs.Graph.{nodeOf}
-use Rattle.graph_nodes.specs.Table.{Table, pick, foundIn}
+use Rattle.graph_nodes.specs.Table.{Table, bucketCount, pick, foundIn}
 
 -- a node below m, or none
 abbrev pub Inside : ℕ → ℕ → Type 0
@@ -25,7 +25,7 @@ pub record Held (t : Table) (ns : List Point) : Type 0 where
   pub xs-are : t .xs ≡ sets (replicate mostNodes 0) 0 (map (λ (p : Point). p .x) ns)
   pub ys-are : t .ys ≡ sets (replicate mostNodes 0) 0 (map (λ (p : Point). p .y) ns)
   pub next-long : length (t .next) ≡ mostNodes
-  pub buckets-long : length (t .buckets) ≡ 2039
+  pub buckets-long : length (t .buckets) ≡ bucketCount
   pub next-inside : (j : ℕ) → j < length ns → Inside (length ns) (getD (t .next) j 0)
-  pub buckets-inside : (b : ℕ) → b < 2039 → Inside (length ns) (getD (t .buckets) b 0)
+  pub buckets-inside : (b : ℕ) → b < bucketCount → Inside (length ns) (getD (t .buckets) b 0)
   pub found : (p : Point) (fuel : ℕ) → length ns ≤ fuel → foundIn fuel (p .x) (p .y) t ≡ answer ns p

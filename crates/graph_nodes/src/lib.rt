@@ -1,15 +1,14 @@
 // The nodes of a graph, numbered by first use, in flat arrays: `xs` and `ys` have each node's
 // coordinates as places on the grid. `buckets` has the newest node of each hash of coordinates, and
-// `next` has for each node the next older one of its hash; 1534 is none.
+// `next` has for each node the next older one of its hash; MOST_NODES is none.
 ghost use mathlib.Core.Path.{_≡_};
 ghost use mathlib.Core.Bool.{Bool, true, false};
 ghost use Prim.Native.Nat.{_<_, _≤_};
 ghost use Rattle.limits.specs.Limits.{mostNodes};
-ghost use Rattle.graph_nodes.specs.Table.{table, hashOf, isAt, seek, inserted, numberIn, tableWith, countWith};
+ghost use Rattle.graph_nodes.specs.Table.{table, bucketCount, hashOf, isAt, seek, inserted, HasRoom, numberIn, tableWith, countWith};
 use limits::MOST_NODES;
 
-// A prime, so that hashes spread.
-pub const BUCKETS: usize = 2039;
+pub const BUCKETS: usize = 2048;
 
 fn widened(x: u32) -> usize
     ensures { λ r. ⌜ (r ≡ x) × (r < 4294967296) ⌝ }
@@ -17,14 +16,15 @@ fn widened(x: u32) -> usize
     x as usize
 }
 
-// The bucket of a point. The multiplier and the number of buckets are primes, so that points whose
-// coordinates are whole numbers, which are multiples of 1,024 grid steps, spread over the buckets.
+// The bucket of a point: digits from the middle of a sum of products, which depend on all digits of both
+// coordinates. (A remainder by the number of buckets would put all points of some straight strokes, in steps
+// of about 20 pixels, into one bucket.) Both factors are below 2^31, so that the sum is below 2^64.
 fn hash(x: u32, y: u32) -> usize
-    ensures { λ r. ⌜ (r ≡ hashOf x y) × (r < 2039) ⌝ }
+    ensures { λ r. ⌜ (r ≡ hashOf x y) × (r < bucketCount) ⌝ }
 {
     let wx = widened(x);
     let wy = widened(y);
-    (1009 * wx + wy) % BUCKETS
+    (1565004953 * wx + 1269492321 * wy) / 2147483648 % BUCKETS
 }
 
 // Whether node i is at x, y.
@@ -40,7 +40,7 @@ fn is_at(xs: &[u32; MOST_NODES], ys: &[u32; MOST_NODES], x: u32, y: u32, i: usiz
     false
 }
 
-// The node at x, y that is found from `start` on, looking at `count` nodes at most; 1534 for none.
+// The node at x, y that is found from `start` on, looking at `count` nodes at most; MOST_NODES for none.
 fn find_node(
     xs: &[u32; MOST_NODES],
     ys: &[u32; MOST_NODES],
@@ -89,7 +89,7 @@ fn insert(
 }
 
 // The number of the node at x, y, where there are n nodes. A new node gets the number n, and is put into
-// the arrays; where there is no room for it, the answer is 1534.
+// the arrays.
 pub fn get_or_insert(
     xs: &mut [u32; MOST_NODES],
     ys: &mut [u32; MOST_NODES],
@@ -99,6 +99,7 @@ pub fn get_or_insert(
     y: u32,
     n: usize,
 ) -> usize
+    requires { ⌜ HasRoom n x y (table (now xs) (now ys) (now next) (now buckets)) ⌝ }
     ensures number { λ r. ⌜ r ≡ numberIn n x y (table (now (xs .entry)) (now (ys .entry)) (now (next .entry)) (now (buckets .entry))) ⌝ }
     ensures nodes { λ _. ⌜ table (now (xs .exit)) (now (ys .exit)) (now (next .exit)) (now (buckets .exit)) ≡ tableWith n x y (table (now (xs .entry)) (now (ys .entry)) (now (next .entry)) (now (buckets .entry))) ⌝ }
 {
@@ -107,9 +108,6 @@ pub fn get_or_insert(
     let found = find_node(xs, ys, next, x, y, start, n);
     if found < MOST_NODES {
         return found;
-    }
-    if MOST_NODES <= n {
-        return MOST_NODES;
     }
     insert(xs, ys, next, buckets, x, y, n);
     n

@@ -20,8 +20,8 @@ use Rattle.graph_spec.proofs.Built.{built-on}
 use Rattle.graph_nodes.specs.Table.{Table}
 use Rattle.graph_adjacency.specs.Lists.{Adjacency}
 use Rattle.graph_spec.specs.Weights.{Searchable}
-use Rattle.repair_early_exit.proofs.Drawn.{drawn-searchable}
-use Rattle.graph_bounds.proofs.Bounds.{built-room}
+use Rattle.graph_counts.proofs.Lengths.{drawn-searchable}
+use Rattle.graph_counts.proofs.Nodes.{counted-few}
 use Rattle.file.specs.declared.Drawing.{Drawing}
 use Rattle.file.specs.declared.Reading.{Reading}
 use Rattle.file.specs.declared.Verdict.the-variants.{Accepted, Refused}

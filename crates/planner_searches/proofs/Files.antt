@@ -4,6 +4,7 @@ use mathlib.Core.Path.{_≡_, refl}
 use mathlib.Core.List.{List}
 use mathlib.Core.Bool.{true, false}
 use Prim.Native.Nat.{ℕ}
+use native.Mathlib.Omega.{arith}
 use lib.ListN.{length}
 use Rattle.limits.specs.Limits.{mostEdges, refusedPath, refusedEdges}
 use Rattle.drawing_spec.specs.Read.{recordsOf}
@@ -14,15 +15,15 @@ use Rattle.repair_spec.specs.Retrace.{shortestPath}
 use Rattle.repair_spec.specs.Repair.{Repairing, stopped, repaired}
 use Rattle.planner_spec.specs.Plan.{drawingIn, graphIn, repairIn, stoppedBy}
 use Rattle.graph_spec.specs.Weights.{Searchable}
-use Rattle.repair_early_exit.proofs.Drawn.{drawn-searchable}
-use Rattle.repair_early_exit.proofs.FewNodes.{nodes-few}
+use Rattle.graph_counts.proofs.Lengths.{drawn-searchable}
+use Rattle.graph_counts.proofs.Nodes.{counted-few}
 use Rattle.repair_early_exit.proofs.Never.{Sound, reached-one-piece, repair-sound}
 use Rattle.repair_early_exit.proofs.ShortSearch.{pathTo, same-path}
 
 module _ (file : List ℕ) (fits : Fits file) where
   pub graph-searchable : Searchable (length (graphIn file .nodes)) (graphIn file .edges)
   unfolding graphIn drawingIn
-  graph-searchable = drawn-searchable (drawingIn file) (lines-on (recordsOf file)) (links-on (recordsOf file)) (nodes-few (drawingIn file) (counts-fit (drawingIn file) (fits .counts)))
+  graph-searchable = drawn-searchable (drawingIn file) (lines-on (recordsOf file)) (links-on (recordsOf file)) (omega (arith, counted-few (drawingIn file) (counts-fit (drawingIn file) (fits .counts)) .nodes))
 
   pub graph-path : (s t : ℕ) → pathTo (length (graphIn file .nodes)) (graphIn file .edges) s t ≡ shortestPath (length (graphIn file .nodes)) (graphIn file .edges) s t
   graph-path = same-path (length (graphIn file .nodes)) (graphIn file .edges) graph-searchable

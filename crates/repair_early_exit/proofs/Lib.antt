@@ -3,9 +3,7 @@ pub mod Arcs
 pub mod Bounded
 pub mod Closer
 pub mod Difference
-pub mod Drawn
 pub mod EarlyExit
-pub mod FewNodes
 pub mod Found
 pub mod Laid
 pub mod Never

@@ -15,3 +15,4 @@ pub mod Repaired
 pub mod Retrace
 pub mod Rounds
 pub mod Stops
+pub mod Retraced

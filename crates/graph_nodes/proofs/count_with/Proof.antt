@@ -1,4 +1,4 @@
--- `nodes::count_with` meets its contract. Assumes nothing.
+-- `graph_nodes::count_with` meets its contract. Assumes nothing.
 use mathlib.Core.Path.{sym}
 use Rattle.graph_nodes.proofs.Table.{count-new, count-old}
 use borrow.Author.Needs.{needs}

@@ -1,4 +1,4 @@
--- `nodes::find_node` meets its contract. The invariant: what is found from here on is what was to be found. Assumes nothing.
+-- `graph_nodes::find_node` meets its contract. The invariant: what is found from here on is what was to be found. Assumes nothing.
 use mathlib.Core.Path.{_≡_, refl, sym, _∙_}
 use native.Mathlib.Omega.{arith}
 use borrow.Author.Needs.{needs}

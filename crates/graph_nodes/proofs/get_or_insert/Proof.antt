@@ -1,6 +1,6 @@
--- `nodes::get_or_insert` meets its contract, by its three ways out. Assumes nothing.
+-- `graph_nodes::get_or_insert` meets its contract, by its two ways out. Assumes nothing.
 use Rattle.graph_nodes.specs.Table.{table}
-use Rattle.graph_nodes.proofs.Table.{old-node, no-room, new-node}
+use Rattle.graph_nodes.proofs.Table.{old-node, room-left, new-node}
 use borrow.Author.Needs.{needs}
 use Rattle.graph_nodes.proofs.get_or_insert.Statement.{statement}
 use Rattle.graph_nodes.proofs.get_or_insert.Tie as tie
@@ -23,14 +23,11 @@ find-node-requires c κs = search needs
 returns : tie.Need-returns
 returns c = old-node (c .before .before .before .before .before .before .before .before .args .n) (c .before .before .before .before .before .before .before .before .args .x) (c .before .before .before .before .before .before .before .before .args .y) (table (c .before .before .before .before .before .before .before .before .args .xs .now) (c .before .before .before .before .before .before .before .before .args .ys .now) (c .before .before .before .before .before .before .before .before .args .next .now) (c .before .before .before .before .before .before .before .before .args .buckets .now)) (c .before .before .before .before .before .before .before .hash .result) (c .before .before .before .before .before .wide .result) (c .before .find-node .result) (c .before .before .before .before .before .before .before .hash .ensures .0) (c .before .before .before .before .before .wide .ensures) (c .before .find-node .ensures) (c .if1 .taken)
 
-returns-2 : tie.Need-returns-2
-returns-2 c = no-room (c .before .before .before .before .before .before .before .before .before .args .n) (c .before .before .before .before .before .before .before .before .before .args .x) (c .before .before .before .before .before .before .before .before .before .args .y) (table (c .before .before .before .before .before .before .before .before .before .args .xs .now) (c .before .before .before .before .before .before .before .before .before .args .ys .now) (c .before .before .before .before .before .before .before .before .before .args .next .now) (c .before .before .before .before .before .before .before .before .before .args .buckets .now)) (c .before .before .before .before .before .before .before .before .hash .result) (c .before .before .before .before .before .before .wide .result) (c .before .before .find-node .result) (c .before .before .before .before .before .before .before .before .hash .ensures .0) (c .before .before .before .before .before .before .wide .ensures) (c .before .before .find-node .ensures) (c .before .if1 .left) (c .if2 .taken)
-
 insert-requires : tie.Need-insert-requires
-insert-requires c κs = search needs
+insert-requires c κs = room-left (c .before .before .before .before .before .before .before .before .before .before .before .before .args .n) (c .before .before .before .before .before .before .before .before .before .before .before .before .args .x) (c .before .before .before .before .before .before .before .before .before .before .before .before .args .y) (table (c .before .before .before .before .before .before .before .before .before .before .before .before .args .xs .now) (c .before .before .before .before .before .before .before .before .before .before .before .before .args .ys .now) (c .before .before .before .before .before .before .before .before .before .before .before .before .args .next .now) (c .before .before .before .before .before .before .before .before .before .before .before .before .args .buckets .now)) (c .before .before .before .before .before .before .before .before .before .before .before .hash .result) (c .before .before .before .before .before .before .before .before .before .wide .result) (c .before .before .before .before .before .find-node .result) (c .before .before .before .before .before .before .before .before .before .before .before .hash .ensures .0) (c .before .before .before .before .before .before .before .before .before .wide .ensures) (c .before .before .before .before .before .find-node .ensures) (c .before .before .before .before .if1 .left) (c .before .before .before .before .before .before .before .before .before .before .before .before .pre)
 
-returns-3 : tie.Need-returns-3
-returns-3 c = new-node (c .before .before .before .before .before .before .before .before .before .before .before .before .before .before .args .n) (c .before .before .before .before .before .before .before .before .before .before .before .before .before .before .args .x) (c .before .before .before .before .before .before .before .before .before .before .before .before .before .before .args .y) (table (c .before .before .before .before .before .before .before .before .before .before .before .before .before .before .args .xs .now) (c .before .before .before .before .before .before .before .before .before .before .before .before .before .before .args .ys .now) (c .before .before .before .before .before .before .before .before .before .before .before .before .before .before .args .next .now) (c .before .before .before .before .before .before .before .before .before .before .before .before .before .before .args .buckets .now)) (c .before .before .before .before .before .before .before .before .before .before .before .before .before .hash .result) (c .before .before .before .before .before .before .before .before .before .before .before .wide .result) (c .before .before .before .before .before .before .before .find-node .result) (c .before .before .before .before .before .before .before .before .before .before .before .before .before .hash .ensures .0) (c .before .before .before .before .before .before .before .before .before .before .before .wide .ensures) (c .before .before .before .before .before .before .before .find-node .ensures) (c .before .before .before .before .before .before .if1 .left) (c .before .before .before .before .before .if2 .left) _ (c .insert .ensures)
+returns-2 : tie.Need-returns-2
+returns-2 c = new-node (c .before .before .before .before .before .before .before .before .before .before .before .before .before .args .n) (c .before .before .before .before .before .before .before .before .before .before .before .before .before .args .x) (c .before .before .before .before .before .before .before .before .before .before .before .before .before .args .y) (table (c .before .before .before .before .before .before .before .before .before .before .before .before .before .args .xs .now) (c .before .before .before .before .before .before .before .before .before .before .before .before .before .args .ys .now) (c .before .before .before .before .before .before .before .before .before .before .before .before .before .args .next .now) (c .before .before .before .before .before .before .before .before .before .before .before .before .before .args .buckets .now)) (c .before .before .before .before .before .before .before .before .before .before .before .before .hash .result) (c .before .before .before .before .before .before .before .before .before .before .wide .result) (c .before .before .before .before .before .before .find-node .result) (c .before .before .before .before .before .before .before .before .before .before .before .before .hash .ensures .0) (c .before .before .before .before .before .before .before .before .before .before .wide .ensures) (c .before .before .before .before .before .before .find-node .ensures) (c .before .before .before .before .before .if1 .left) _ (c .insert .ensures)
 
 pub get-or-insert-spec : {M : Type 1} → statement M
 get-or-insert-spec =
@@ -42,6 +39,5 @@ get-or-insert-spec =
     wide-requires
     find-node-requires
     returns
-    returns-2
     insert-requires
-    returns-3)
+    returns-2)

@@ -1,4 +1,4 @@
--- `nodes::insert` meets its contract. Assumes nothing.
+-- `graph_nodes::insert` meets its contract. Assumes nothing.
 use Rattle.graph_nodes.specs.Table.{table}
 use Rattle.graph_nodes.proofs.Table.{inserted-is}
 use borrow.Author.Needs.{needs}

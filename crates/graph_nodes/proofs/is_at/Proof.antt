@@ -1,4 +1,4 @@
--- `nodes::is_at` meets its contract. Assumes nothing.
+-- `graph_nodes::is_at` meets its contract. Assumes nothing.
 use lib.ListN.{getD}
 use Rattle.graph_nodes.proofs.Table.{at-one, at-none}
 use borrow.Author.Needs.{needs}

@@ -1,4 +1,4 @@
--- The graph of a drawing on the grid can be searched so: its edges join different points, which are a grid step apart or more, and no two points are 2 ^ 14 apart.
+-- How long the edges of a drawing on the grid are: they join different points, which are a grid step apart or more, and no two points are 2 ^ 14 apart.
 use mathlib.Core.Path.{_≡_, refl, sym, ap}
 use mathlib.Core.List.{map}
 use mathlib.Core.Bool.{false}

@@ -1,0 +1,13 @@
+-- What the arrays hold when the graph of a drawing is built. Assumes nothing.
+use mathlib.Core.Path.{_≡_}
+use mathlib.Core.List.{List}
+use Prim.Native.Nat.{ℕ}
+use Rattle.graph_spec.specs.Graph.{Graph}
+use Rattle.graph_adjacency.specs.Lists.{Adjacency}
+use Rattle.graph_arrays.specs.Arrays.{graphIn, NodesHeld, EdgesHeld}
+
+-- the graph read off the arrays is g
+pub record Built (g : Graph) (n m : ℕ) (xs ys : List ℕ) (a : Adjacency) : Type 0 where
+  pub nodes : NodesHeld n xs ys
+  pub edges : EdgesHeld n m a
+  pub is : graphIn n m xs ys a ≡ g
