@@ -3,3 +3,4 @@ pub mod Points
 pub mod Rows
 pub mod Bounds
 pub mod Rounds
+pub mod ByLength

@@ -8,11 +8,8 @@ use mathlib.Core.List.{List, [], _∷_, _++_, append-nil}
 use lib.ListN.{length, set, drop, replicate}
 use lib.Seq.{drop-length}
 use lib.Ieee.{Float, binary64, ofBits}
+use Rattle.sums.proofs.Sum.{zero-bits}
 use Rattle.repair_spec.specs.Distance.{zeroLength}
-
-zero-bits : ofBits binary64 0 ≡ zeroLength
-unfolding ofBits
-zero-bits = refl
 
 module _ {A : Type 0} (z : A) where
   clear-suc : (n : ℕ) (d : List A) → n < length d → set (replicate n z ++ drop n d) n z ≡ replicate (suc n) z ++ drop (suc n) d
@@ -28,4 +25,4 @@ module _ {A : Type 0} (z : A) where
 
 pub clear-floats-turn : (n : ℕ) (d l : List Float) → n < length d → l ≡ replicate n zeroLength ++ drop n d
     → set l n (ofBits binary64 0) ≡ replicate (n + 1) zeroLength ++ drop (n + 1) d
-clear-floats-turn n d l h e = ap (set l n) zero-bits ∙ clear-turn zeroLength n d l h e
+clear-floats-turn n d l h e = ap (set l n) (zero-bits binary64) ∙ clear-turn zeroLength n d l h e
