@@ -1,4 +1,2 @@
--- Laws of the definitions in specs/.
-pub mod Answer
-pub mod CloseLaws
-pub mod Listed
+-- What closing does, by what code finds.
+pub mod Closing

@@ -1,42 +1,31 @@
--- `closing::close` meets its contract. Assumes nothing.
+-- `repair_closing::close` meets its contract. Assumes nothing.
 use mathlib.Core.Path.{_≡_, sym, subst}
-use mathlib.Core.List.{List}
-use Prim.Native.Nat.{ℕ, _≤_, _<_}
+use mathlib.Core.List.{List, [], _∷_}
+use Prim.Native.Nat.{ℕ}
 use native.Mathlib.Omega.{arith}
 use lib.Ieee.{ofBits}
 use borrow.Author.Needs.{needs}
-use lib.ListN.{length}
-use Rattle.graph_spec.specs.Graph.{Edge}
-use Rattle.graph_spec.specs.Degree.{oddNodes}
-use Rattle.repair_spec.specs.Pairing.{pair}
-use Rattle.repair_retrace.specs.Apply.{Holds}
-use Rattle.repair_closing.specs.Close.{lastPair}
+use borrow.Author.Tests.{not-true, not-false}
 use Rattle.graph_adjacency.specs.Lists.{Adjacency, adjacency}
+use Rattle.graph_arrays.specs.Arrays.{edgesIn}
 use Rattle.repair_spec.specs.Distance.{zeroLength}
+use Rattle.repair_spec.specs.Pairing.{pair}
+use Rattle.repair_spec.specs.Repair.{Repairing, repaired, applyMatching, closeIf}
+use Rattle.repair_retrace.specs.Outcome.{under}
 use Rattle.repair_retrace.specs.declared.Applied.{Applied}
-use Rattle.repair_retrace.specs.Answer.{PairApplied}
-use Rattle.repair_closing.specs.Answer.{Closed}
-use Rattle.repair_closing.proofs.Answer.{not-true, not-false, open-gives, none-gives, last-refused, last-gives}
-use Rattle.repair_closing.proofs.Listed.{ready-below, counted, node-below, last-is}
+use Rattle.repair_retrace.specs.Answer.{Answers}
+use Rattle.repair_closing.proofs.Closing.{answers-open, answers-none, node-below, answers-refused, answers-joined}
 use Rattle.repair_closing.proofs.close.Statement.{statement}
 use Rattle.repair_closing.proofs.close.Tie as tie
-use Rattle.repair_closing.proofs.close.Reads as reads
-use Rattle.repair_closing.proofs.close.Lts as lts
-use Rattle.widen.proofs.wide.Reads as wide-reads
-use Rattle.graph_odd.proofs.odd_nodes.Reads as odd-nodes-reads
-use Rattle.repair_retrace.proofs.apply_pair.Reads as apply-pair-reads
 
 abbrev entry : tie.Start → Adjacency
 entry c = adjacency (c .args .ends .now) (c .args .weights .now) (c .args .next .now) (c .args .heads .now)
 
 abbrev start : tie.After-odd-nodes → tie.Start
-start c = c .before .before .before .before
+start c = c .before .before .before .before .before .before .before
 
 abbrev listed : tie.After-odd-nodes → List ℕ
-listed c = c .odd-nodes .last .1 .0
-
-count-is : (f : tie.After-odd-nodes) (es : List Edge) → Holds (start f .args .n) es (entry (start f)) → length es ≡ start f .args .edges → f .odd-nodes .result ≡ length (oddNodes (start f .args .n) es)
-count-is f = let b = start f in counted (b .args .n) (b .args .edges) (b .pre .0) (entry b) (listed f) (f .odd-nodes .result) (f .odd-nodes .ensures)
+listed c = c .odd-nodes .last .1 .1 .1 .1 .1 .1 .0
 
 abbrev ends-of : tie.After-apply-pair → tie.After-wide2
 ends-of c = c .before .before .before .before .before
@@ -50,39 +39,31 @@ after c = adjacency (c .apply-pair .last .0) (c .apply-pair .last .1 .0) (c .app
 two : (c : tie.After-apply-pair) → odd-of c .odd-nodes .result ≡ 2
 two c = omega (arith, ends-of c .before .before .if2 .left)
 
-is-last : (c : tie.After-apply-pair) (es : List Edge) → Holds (start (odd-of c) .args .n) es (entry (start (odd-of c))) → length es ≡ start (odd-of c) .args .edges
-    → pair (ends-of c .before .wide .result) (ends-of c .wide2 .result) ≡ lastPair (start (odd-of c) .args .n) es
-is-last c =
-    let w = ends-of c in
-    let f = odd-of c in
-    let b = start f in
-    last-is (b .args .n) (b .args .edges) (b .pre .0) (entry b) (listed f) (f .odd-nodes .result) (f .odd-nodes .ensures) (two c) (w .before .wide .result) (w .wide2 .result) (w .before .wide .ensures) (w .wide2 .ensures)
-
--- what the last retrace made, by the answer that a branch found
-made : (c : tie.After-apply-pair) (answer : Applied) → c .apply-pair .result ≡ answer
-    → PairApplied (start (odd-of c) .args .most) (start (odd-of c) .args .number) (start (odd-of c) .args .n) (ends-of c .before .wide .result) (ends-of c .wide2 .result) (start (odd-of c) .args .edges) zeroLength
-    (entry (start (odd-of c))) (after c) answer
-unfolding ofBits
-made c answer e =
-    let w = ends-of c in
+-- the last retrace, summed by itself
+abbrev last : tie.After-apply-pair → Repairing
+last c =
     let b = start (odd-of c) in
-    subst (λ (x : Applied). PairApplied (b .args .most) (b .args .number) (b .args .n) (w .before .wide .result) (w .wide2 .result) (b .args .edges) zeroLength (entry b) (after c) x) e (c .apply-pair .ensures)
+    applyMatching (b .args .most) (b .args .number) (b .args .n) (pair (ends-of c .before .wide .result) (ends-of c .wide2 .result) ∷ []) (under (edgesIn (b .args .m) (entry b)) zeroLength)
+
+-- by the answer that a branch found
+made : (c : tie.After-apply-pair) (answer : Applied) → c .apply-pair .result ≡ answer → Answers (start (odd-of c) .args .n) (last c) answer (after c)
+unfolding ofBits
+made c answer e = subst (λ (x : Applied). Answers (start (odd-of c) .args .n) (last c) x (after c)) e (c .apply-pair .ensures)
 
 returns : tie.Need-returns
-returns c = let b = c .before in open-gives (b .args .most) (b .args .number) (b .args .n) (b .args .edges) (b .args .sum) (entry b) (b .args .closing) (not-true (b .args .closing) (c .if1 .taken))
+returns c =
+    let b = c .before in
+    answers-open (b .args .most) (b .args .number) (b .args .n) (b .args .m) (b .args .sum) (entry b) (b .pre .1) (b .args .closing) (not-true (b .args .closing) (c .if1 .taken))
 
 odd-nodes-requires : tie.Need-odd-nodes-requires
-odd-nodes-requires c κs =
-    let b = c .before .before .before in
-    let k = ready-below (b .args .n) (b .args .edges) (b .pre .0) (entry b) (b .pre .2) in
-    ((b .pre .0, k .0), k .1)
+odd-nodes-requires c κs = c .before .before .before .before .before .before .pre .1 .edges
 
 returns-2 : tie.Need-returns-2
 returns-2 c =
     let f = c .before in
     let b = start f in
-    none-gives (b .args .most) (b .args .number) (b .args .n) (b .args .edges) (b .args .sum) (entry b) (b .args .closing) (not-false (b .args .closing) (f .before .before .before .if1 .left)) (f .odd-nodes .result)
-    (counted (b .args .n) (b .args .edges) (b .pre .0) (entry b) (listed f) (f .odd-nodes .result) (f .odd-nodes .ensures)) (λ e. omega (arith, c .if2 .taken))
+    answers-none (b .args .most) (b .args .number) (b .args .n) (b .args .m) (b .args .sum) (entry b) (b .pre .1) (b .args .closing) (not-false (b .args .closing) (f .before .before .before .before .before .before .if1 .left))
+    (listed f) (f .odd-nodes .result) (f .odd-nodes .ensures) (λ e. omega (arith, c .if2 .taken))
 
 array-read-wide : tie.Need-array-read-wide
 array-read-wide c = search needs
@@ -102,13 +83,9 @@ apply-pair-requires c κs =
     let e = w .before .before in
     let f = e .before in
     let b = start f in
-    let below = node-below (b .args .n) (b .args .edges) (b .pre .0) (entry b) (listed f) (f .odd-nodes .result) (f .odd-nodes .ensures) (b .pre .2) in (
-      b .pre .0,
-      omega (arith, w .before .wide .ensures, below 0 (omega (arith, e .if2 .left))),
-      omega (arith, w .wide2 .ensures, below 1 (omega (arith, e .if2 .left))),
-      b .pre .1,
-      b .pre .2,
-    )
+    let below = node-below (b .args .most) (b .args .number) (b .args .n) (b .args .m) (b .args .sum) (entry b) (b .pre .1) (b .args .closing) (not-false (b .args .closing) (f .before .before .before .before .before .before .if1 .left))
+    (listed f) (f .odd-nodes .result) (f .odd-nodes .ensures) in
+    ((omega (arith, w .before .wide .ensures, below 0 (omega (arith, e .if2 .left))), omega (arith, w .wide2 .ensures, below 1 (omega (arith, e .if2 .left))), b .pre .0), b .pre .1)
 
 enum-known-last : tie.Need-enum-known-last
 enum-known-last c = search needs
@@ -120,20 +97,20 @@ returns-3 : tie.Need-returns-3
 returns-3 c =
     let p = c .before .before in
     let w = ends-of p in
-    let f = w .before .before .before in
+    let f = odd-of p in
     let b = start f in
-    subst (λ (x : Applied). Closed (b .args .closing) (b .args .most) (b .args .number) (b .args .n) (b .args .edges) (b .args .sum) (entry b) (after p) x) (sym (c .enum-told .given .1))
-    (last-refused (b .args .most) (b .args .number) (b .args .n) (b .args .edges) (b .args .sum) (entry b) (b .args .closing) (not-false (b .args .closing) (f .before .before .before .if1 .left)) (f .odd-nodes .result) (count-is f) (two p)
-    (w .before .wide .result) (w .wide2 .result) (is-last p) (after p) _ (made p _ (c .enum-told .given .1)))
+    subst (λ (x : Applied). Answers (b .args .n) (closeIf (b .args .closing) (b .args .most) (b .args .number) (b .args .n) (repaired (under (edgesIn (b .args .m) (entry b)) (b .args .sum)))) x (after p)) (sym (c .enum-told .given .1))
+    (answers-refused (b .args .most) (b .args .number) (b .args .n) (b .args .m) (b .args .sum) (entry b) (b .pre .1) (b .args .closing) (not-false (b .args .closing) (f .before .before .before .before .before .before .if1 .left))
+    (listed f) (f .odd-nodes .result) (f .odd-nodes .ensures) (two p) (w .before .wide .result) (w .wide2 .result) (w .before .wide .ensures) (w .wide2 .ensures) _ (after p) (made p _ (c .enum-told .given .1)))
 
 returns-4 : tie.Need-returns-4
 returns-4 c =
     let p = c .before .before .before in
     let w = ends-of p in
-    let f = w .before .before .before in
+    let f = odd-of p in
     let b = start f in
-    last-gives (b .args .most) (b .args .number) (b .args .n) (b .args .edges) (b .args .sum) (entry b) (b .args .closing) (not-false (b .args .closing) (f .before .before .before .if1 .left)) (f .odd-nodes .result) (count-is f) (two p)
-    (w .before .wide .result) (w .wide2 .result) (is-last p) (after p) _ _ (made p _ (c .before .last .given .1))
+    answers-joined (b .args .most) (b .args .number) (b .args .n) (b .args .m) (b .args .sum) (entry b) (b .pre .1) (b .args .closing) (not-false (b .args .closing) (f .before .before .before .before .before .before .if1 .left))
+    (listed f) (f .odd-nodes .result) (f .odd-nodes .ensures) (two p) (w .before .wide .result) (w .wide2 .result) (w .before .wide .ensures) (w .wide2 .ensures) _ _ (after p) (made p _ (c .before .last .given .1))
 
 pub close-spec : {M : Type 1} → statement M
 close-spec =
