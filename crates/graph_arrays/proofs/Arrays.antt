@@ -5,7 +5,8 @@ use mathlib.Core.List.{List, [], _∷_, _++_}
 use Prim.Native.Nat.{ℕ, suc, _+_, _≤_, _<_}
 use native.Mathlib.Numerals.{add-one}
 use native.Mathlib.Omega.{arith}
-use lib.ListN.{length, getD, length-append}
+use lib.ListN.{length, getD, length-append, length-take}
+use lib.Seq.{getD-take}
 use lib.Ieee.{Float, nan}
 use Rattle.limits.specs.Limits.{mostNodes, edgeRoom}
 use Rattle.graph_spec.specs.Graph.{Edge, edge, edgesAt}
@@ -16,7 +17,7 @@ use Rattle.graph_adjacency.specs.Follow.{Ends, Follows}
 use Rattle.graph_adjacency.proofs.Follow.{lists-follow, lists-push}
 use Rattle.drawing_spec.specs.Members.{In}
 use Rattle.drawing_spec.proofs.Members.{in-append}
-use Rattle.graph_arrays.specs.Arrays.{edgeIn, edgesIn, EdgesLinked}
+use Rattle.graph_arrays.specs.Arrays.{edgeIn, edgesIn, EdgesLinked, AreNodes, Front}
 use Rattle.graph_arrays.proofs.Ends.{inside-ends}
 use Rattle.graph_arrays.proofs.Tabulate.{tabulate-length, tabulate-at}
 use Rattle.graph_arrays.proofs.Filled as filled
@@ -93,3 +94,20 @@ module _ (n m u v : ℕ) (w : Float) (a a' : Adjacency) (L : EdgesLinked n m a) 
 
   pub pushed-linked : EdgesLinked n (suc m) a'
   pushed-linked = subst (λ (k : ℕ). EdgesLinked n k a') es-count (lists-linked n es a' (omega (arith, es-count)) es-inside pushed-lists (L .few-nodes))
+
+-- ---- listed nodes
+
+pub nodes-most : (n : ℕ) (array : List ℕ) (count : ℕ) → AreNodes n array count → n ≤ mostNodes → AreNodes mostNodes array count
+nodes-most n array count W h = record { few = W .few; long = W .long; below = λ i l. omega (arith, W .below i l) }
+
+-- a list of nodes at the front of an array
+module _ (n : ℕ) (vs array : List ℕ) (count : ℕ) (F : Front vs array count) where
+  pub front-at : (i : ℕ) → i < count → getD array i 0 ≡ getD vs i 0
+  front-at i h = sym (getD-take count array i 0 h) ∙ ap (λ (l : List ℕ). getD l i 0) (F .are)
+
+  pub front-nodes : length vs ≤ mostNodes → ((i : ℕ) → i < length vs → getD vs i 0 < n) → AreNodes n array count
+  front-nodes few below = record {
+    few = omega (arith, F .counts);
+    long = omega (arith, F .counts, ap length (F .are), length-take count array);
+    below = λ i h. omega (arith, front-at i h, below i (omega (arith, F .counts)));
+  }

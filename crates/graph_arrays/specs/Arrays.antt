@@ -3,7 +3,7 @@
 -- arrays says by these functions and records what they hold.
 use mathlib.Core.Path.{_≡_}
 use mathlib.Core.List.{List}
-use Prim.Native.Nat.{ℕ, _+_, _^_, _≤_}
+use Prim.Native.Nat.{ℕ, _+_, _^_, _≤_, _<_}
 use lib.ListN.{length, getD, take}
 use lib.Ieee.{nan}
 use Rattle.limits.specs.Limits.{mostNodes, mostEdges, edgeRoom}
@@ -54,3 +54,9 @@ pub record NodesHeld (n : ℕ) (xs ys : List ℕ) : Type 0 where
 pub record Front (vs array : List ℕ) (count : ℕ) : Type 0 where
   pub counts : count ≡ length vs
   pub are : take count array ≡ vs
+
+-- The first `count` elements of an array are nodes, of n.
+pub record AreNodes (n : ℕ) (array : List ℕ) (count : ℕ) : Type 0 where
+  pub few : count ≤ mostNodes
+  pub long : count ≤ length array
+  pub below : (i : ℕ) → i < count → getD array i 0 < n

@@ -1,25 +1,24 @@
--- The rows that repair's definition works out once give the least distances from each of their sources, and so does the table. Assumes nothing.
+-- The rows that repair's definition works out once give the least distances from each of their sources, and so does the table.
 use mathlib.Core.Path.{_≡_, refl, sym, ap, _∙_}
 use mathlib.Core.Bool.{Bool, true, false}
 use mathlib.Core.List.{List, [], _∷_}
 use Prim.Native.Nat.{ℕ, zero, suc, _<_}
 use native.Mathlib.Nat.{le-of-suc-le-suc}
 use native.Mathlib.Omega.{arith}
-use lib.ListN.{length, getD, take}
-use lib.Seq.{getD-take}
+use lib.ListN.{length, getD}
 use lib.Dec.{eqb}
 use lib.Ieee.{Float}
 use borrow.Author.Tests.{eqb-true, eq-eqb}
 use Rattle.graph_spec.specs.Graph.{Edge}
-use Rattle.graph_adjacency.specs.Lists.{Adjacency}
+use Rattle.graph_arrays.specs.Arrays.{Front}
+use Rattle.graph_arrays.proofs.Arrays.{front-at}
 use Rattle.repair_spec.specs.Distance.{distanceAt, distances}
 use Rattle.repair_spec.specs.Repair.{rows, distanceIn}
-use Rattle.repair_search.specs.Search.{GraphOf}
 use Rattle.repair_table.specs.Tables.{matrix}
 use Rattle.repair_distances.specs.Rows.{Rows}
 
 -- the row of a node, where it has one
-pub row-known : (n : ℕ) (es : List Edge) (vs : List ℕ) (i v : ℕ) → i < length vs → distanceIn (rows n es vs) (getD vs i 0) v ≡ distanceAt (distances n es (getD vs i 0)) v
+row-known : (n : ℕ) (es : List Edge) (vs : List ℕ) (i v : ℕ) → i < length vs → distanceIn (rows n es vs) (getD vs i 0) v ≡ distanceAt (distances n es (getD vs i 0)) v
 unfolding rows distanceIn
 row-known n es [] i v h = absurd (omega arith)
 row-known n es (u ∷ us) zero v h =
@@ -31,11 +30,10 @@ row-known n es (u ∷ us) (suc i) v h = go (eqb u (getD us i 0)) refl (row-known
     go true e r = ap (λ (w : ℕ). distanceAt (distances n es w) v) (eqb-true u (getD us i 0) e)
     go false e r = r
 
--- the table has the distances of the definition, for the list vs at the front of the array
-pub table-known : (n : ℕ) (g : Adjacency) (odd vs : List ℕ) (ws : List Float) → take (length vs) odd ≡ vs → Rows n g odd (length vs) (length vs) ws
-    → (es : List Edge) → GraphOf n es g → (i j : ℕ) → i < length vs → j < length vs
-    → distanceIn (rows n es vs) (getD vs i 0) (getD vs j 0) ≡ matrix (length vs) ws i j
-table-known n g odd vs ws front R es G i j h k =
-    let at : (a : ℕ) → a < length vs → getD odd a 0 ≡ getD vs a 0 = λ a l. sym (getD-take (length vs) odd a 0 l) ∙ ap (λ (l : List ℕ). getD l a 0) front in
-    row-known n es vs i (getD vs j 0) h
-    ∙ sym (R es G i j h k ∙ ap (λ (u : ℕ). distanceAt (distances n es u) (getD odd j 0)) (at i h) ∙ ap (λ (u : ℕ). distanceAt (distances n es (getD vs i 0)) u) (at j k))
+-- the table has the distances of the definition, between the nodes of the list vs at the front of the array
+pub table-known : (n : ℕ) (es : List Edge) (odd vs : List ℕ) (count : ℕ) (ws : List Float) → Front vs odd count → Rows n es odd count count ws
+    → (i j : ℕ) → i < count → j < count → distanceIn (rows n es vs) (getD odd i 0) (getD odd j 0) ≡ matrix count ws i j
+table-known n es odd vs count ws F R i j h k =
+    let at = front-at n vs odd count F i h in
+    ap (λ (u : ℕ). distanceIn (rows n es vs) u (getD odd j 0)) at ∙ row-known n es vs i (getD odd j 0) (omega (arith, F .counts))
+    ∙ sym (R i j h k ∙ ap (λ (u : ℕ). distanceAt (distances n es u) (getD odd j 0)) at)

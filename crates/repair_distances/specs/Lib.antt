@@ -1,4 +1,2 @@
 -- The rows of distances between odd nodes.
 pub mod Rows
-
--- They are what the definition of repair works out once:

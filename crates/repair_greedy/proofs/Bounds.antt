@@ -13,7 +13,7 @@ use Rattle.drawing_spec.specs.Drawing.{Point}
 use Rattle.drawing_spec.proofs.Members.{set-cases, getD-same}
 use Rattle.graph_spec.specs.Chain.{squared}
 use Rattle.repair_spec.specs.Pairing.{nothing, between, closestTo}
-use Rattle.repair_greedy.specs.Points.{pointAt, OnGrid}
+use Rattle.graph_arrays.specs.Arrays.{pointIn, NodesHeld}
 use Rattle.repair_greedy.proofs.Points.{distance-small}
 use Rattle.repair_greedy.proofs.Rows.{row-skipped, row-least}
 use Rattle.repair_greedy.specs.Bounds.{Bounds, apart}
@@ -75,11 +75,11 @@ module _ (f : ℕ → Point) (w : List ℕ) (n : ℕ) (long : n ≤ length w) wh
       bounds-set f w n lows i d B (λ j h k. row-least f w n long (f (getD w i 0)) i (i + 1) a b d nothing e j (omega arith) k)
 
 -- a distance found on the grid leaves room for one more
-pub row-small : (xs ys w : List ℕ) (n i a b d : ℕ) → n ≤ length w → OnGrid xs ys → i + 1 < n
-    → closestTo (pointAt xs ys (getD w i 0)) i (drop (i + 1) (map (pointAt xs ys) (take n w))) (i + 1) nothing ≡ between a b d → d ≤ 2 ^ 49
-row-small xs ys w n i a b d long G h e =
+pub row-small : (k : ℕ) (xs ys w : List ℕ) (n i a b d : ℕ) → n ≤ length w → NodesHeld k xs ys → i + 1 < n
+    → closestTo (pointIn xs ys (getD w i 0)) i (drop (i + 1) (map (pointIn xs ys) (take n w))) (i + 1) nothing ≡ between a b d → d ≤ 2 ^ 49
+row-small k xs ys w n i a b d long H h e =
     omega (
       arith,
-      row-least (pointAt xs ys) w n long (pointAt xs ys (getD w i 0)) i (i + 1) a b d nothing e (i + 1) (omega arith) h,
-      distance-small xs ys (getD w i 0) (getD w (i + 1) 0) G,
+      row-least (pointIn xs ys) w n long (pointIn xs ys (getD w i 0)) i (i + 1) a b d nothing e (i + 1) (omega arith) h,
+      distance-small k xs ys (getD w i 0) (getD w (i + 1) 0) H,
     )

@@ -1,6 +1,6 @@
 -- Laws of the definitions in specs/.
-pub mod Bounds
-pub mod Filled
 pub mod Points
-pub mod Rounds
 pub mod Rows
+pub mod Bounds
+pub mod Rounds
+pub mod ByLength

@@ -1,26 +1,24 @@
 -- Laws of specs/Rounds.
 use mathlib.Core.Path.{_≡_, refl, sym, ap, subst, _∙_}
 use mathlib.Core.Bool.{Bool, true, false}
-use mathlib.Core.List.{List, [], _∷_, map}
-use Prim.Native.Nat.{ℕ, zero, suc, _+_, _-_, _≤_, _<_}
-use native.Mathlib.Numerals.{add-one}
+use mathlib.Core.List.{List, [], _∷_, _++_, map, append-assoc, append-nil}
+use Prim.Native.Nat.{ℕ, zero, suc, _+_, _-_, _*_, _≤_, _<_}
 use native.Mathlib.Omega.{arith}
 use lib.ListN.{length, getD, take, set, length-map, length-set}
-use lib.Seq.{sets, length-take-le, take-take, take-set-lt, getD-take}
+use lib.Seq.{length-take-le, take-take, take-set-lt, getD-take}
 use lib.Dec.{ltb}
 use borrow.Author.Tests.{lt-ltb, le-ltb}
 use Rattle.drawing_spec.specs.Drawing.{Point}
+use Rattle.limits.specs.Limits.{mostPairs}
 use Rattle.repair_spec.specs.Pairing.{Pair, pair, Closest, nothing, between, closest, swapRemove, greedyPairs, noPoint}
 use Rattle.repair_spec.proofs.Pairs.{Places, closest-places}
-use Rattle.repair_greedy.specs.Points.{Working, pointsOf, pointAt}
-use Rattle.repair_greedy.proofs.Points.{working-removed}
+use Rattle.repair_spec.specs.PairsIn.{pairsIn, PairRoom}
+use Rattle.repair_spec.proofs.PairsIn.{pairs-more, room-more}
+use Rattle.graph_arrays.specs.Arrays.{pointIn, nodesIn, AreNodes}
+use Rattle.repair_greedy.proofs.Points.{nodes-removed, points-of}
 use Rattle.repair_greedy.specs.Bounds.{Bounds}
 use Rattle.repair_greedy.proofs.Bounds.{bounds-removed}
-use Rattle.repair_greedy.specs.Rounds.{Round, Written, firstsOf, secondsOf}
-
--- the last of n takes the place i
-abbrev pub moved : List ℕ → ℕ → ℕ → List ℕ
-moved w n i = set w i (getD w (n - 1) 0)
+use Rattle.repair_greedy.specs.Rounds.{Round, moved}
 
 removed-is : (w : List ℕ) (n i : ℕ) → n ≤ length w → i < n → swapRemove (take n w) i ≡ take (n - 1) (moved w n i)
 unfolding swapRemove
@@ -52,18 +50,19 @@ turn-is k ns vs = refl
 abbrev pub without : List ℕ → ℕ → ℕ → ℕ → List ℕ
 without w n i j = moved (moved w n j) (n - 1) i
 
+-- the two places that are found, for nodes at whatever points
+pub found-places : (f : ℕ → Point) (w : List ℕ) (n i j d : ℕ) → n ≤ length w → closest (map f (take n w)) 0 nothing ≡ between i j d → 2 ≤ n → (i < j) × (j < n)
+found-places f w n i j d long is h =
+    let ps = map f (take n w) in
+    let all : length ps ≡ n = length-map (take n w) f ∙ length-take-le n w long in
+    subst (λ (m : ℕ). Places m (between i j d)) all (subst (Places (length ps)) is (closest-places ps (omega (arith, all))))
+
 module _ (ns : List Point) (w : List ℕ) (n i j d : ℕ) (long : n ≤ length w)
     (is : closest (map (λ (v : ℕ). getD ns v noPoint) (take n w)) 0 nothing ≡ between i j d) where
-  pub found-places : 2 ≤ n → (i < j) × (j < n)
-  found-places h =
-      let ps = map (λ (v : ℕ). getD ns v noPoint) (take n w) in
-      let all : length ps ≡ n = length-map (take n w) (λ (v : ℕ). getD ns v noPoint) ∙ length-take-le n w long in
-      subst (λ (m : ℕ). Places m (between i j d)) all (subst (Places (length ps)) is (closest-places ps (omega (arith, all))))
-
   round-pairs : 2 < n → (k : ℕ) → greedyPairs (suc k) ns (take n w) ≡ pair (getD w i 0) (getD w j 0) ∷ greedyPairs k ns (take (n - 2) (without w n i j))
   unfolding turn
   round-pairs h k =
-      let at = found-places (omega arith) in
+      let at = found-places (λ (v : ℕ). getD ns v noPoint) w n i j d long is (omega arith) in
       let less : n - 1 - 1 ≡ n - 2 = omega arith in
       let next : swapRemove (swapRemove (take n w) j) i ≡ take (n - 2) (without w n i j) =
       ap (λ (l : List ℕ). swapRemove l i) (removed-is w n j long (at .1))
@@ -86,24 +85,7 @@ round-end (suc k) ns w n h long =
     ∙ ap (λ (t : Bool). turn (take n w) (greedyPairs k ns) t (closest (map (λ (v : ℕ). getD ns v noPoint) (take n w)) 0 nothing))
     (le-ltb 2 (length (take n w)) (omega (arith, length-take-le n w long)))
 
-round-is : (ns : List Point) (w : List ℕ) (n i j d count : ℕ) (fs ss : List ℕ) → n ≤ length w → 2 < n
-    → closest (map (λ (v : ℕ). getD ns v noPoint) (take n w)) 0 nothing ≡ between i j d
-    → Round ns w (without w n i j) n count fs (set fs count (getD w i 0)) ss (set ss count (getD w j 0))
-round-is ns w n i j d count fs ss long h is = record {
-  firsts = λ k.
-      ap (λ (m : ℕ). sets (set fs count (getD w i 0)) m (firstsOf (greedyPairs k ns (take (n - 2) (without w n i j))))) (add-one count)
-      ∙ sym (ap (λ (ps : List Pair). sets fs count (firstsOf ps)) (round-pairs ns w n i j d long is h k));
-  seconds = λ k.
-      ap (λ (m : ℕ). sets (set ss count (getD w j 0)) m (secondsOf (greedyPairs k ns (take (n - 2) (without w n i j))))) (add-one count)
-      ∙ sym (ap (λ (ps : List Pair). sets ss count (secondsOf ps)) (round-pairs ns w n i j d long is h k));
-  counts = λ k. ap length (round-pairs ns w n i j d long is h k);
-}
-
--- what a round needs holds for the next one
-round-working : (w : List ℕ) (n i j : ℕ) → i < j → j < n → Working w n → Working (without w n i j) (n - 2)
-round-working w n i j h k W =
-    subst (Working (without w n i j)) (omega arith) (working-removed (moved w n j) (n - 1) i (omega arith) (working-removed w n j k W))
-
+-- the bounds hold for the next round
 round-bounds : (f : ℕ → Point) (w : List ℕ) (n i j : ℕ) (lows : List ℕ) → i < j → j < n → Bounds f w n lows
     → Bounds f (without w n i j) (n - 2) (set (set lows j 0) i 0)
 round-bounds f w n i j lows h k B =
@@ -111,58 +93,67 @@ round-bounds f w n i j lows h k B =
     (bounds-removed f (moved w n j) (n - 1) (set lows j 0) i (omega arith) (bounds-removed f w n lows j k B))
 
 -- the round by its steps: the place j goes, then the place i
-pub round-done : (xs ys w w₁ w₂ lows lows₁ lows₂ : List ℕ) (n i j d count : ℕ) (fs ss : List ℕ) → 2 < n → Working w n → Bounds (pointAt xs ys) w n lows
-    → closest (map (pointAt xs ys) (take n w)) 0 nothing ≡ between i j d
+pub round-done : (f : ℕ → Point) (w w₁ w₂ lows lows₁ lows₂ : List ℕ) (n i j d count : ℕ) (fs ss : List ℕ) → 2 < n → n ≤ length w → Bounds f w n lows
+    → closest (map f (take n w)) 0 nothing ≡ between i j d
     → w₁ ≡ set w j (getD w (n - 1) 0) → lows₁ ≡ set lows j 0 → w₂ ≡ set w₁ i (getD w₁ (n - 2) 0) → lows₂ ≡ set lows₁ i 0
-    → Working w₂ (n - 2) × Bounds (pointAt xs ys) w₂ (n - 2) lows₂
-    × Round (pointsOf xs ys) w w₂ n count fs (set fs count (getD w i 0)) ss (set ss count (getD w j 0))
-round-done xs ys w w₁ w₂ lows lows₁ lows₂ n i j d count fs ss h W B is e₁ g₁ e₂ g₂ =
-    let at = found-places (pointsOf xs ys) w n i j d (W .long) is (omega arith) in
+    → Bounds f w₂ (n - 2) lows₂ × Round f n count w w₂ fs (set fs count (getD w i 0)) ss (set ss count (getD w j 0))
+round-done f w w₁ w₂ lows lows₁ lows₂ n i j d count fs ss h long B is e₁ g₁ e₂ g₂ =
+    let at = found-places f w n i j d long is (omega arith) in
     let less : n - 2 ≡ n - 1 - 1 = omega arith in
-    let e : without w n i j ≡ w₂ =
-    sym (e₂ ∙ ap (λ (l : List ℕ). set l i (getD l (n - 2) 0)) e₁ ∙ ap (λ (m : ℕ). set (moved w n j) i (getD (moved w n j) m 0)) less) in
-    let g : set (set lows j 0) i 0 ≡ lows₂ = sym (g₂ ∙ ap (λ (l : List ℕ). set l i 0) g₁) in (
-      subst (λ (l : List ℕ). Working l (n - 2)) e (round-working w n i j (at .0) (at .1) W),
-      subst (λ (l : List ℕ). Bounds (pointAt xs ys) w₂ (n - 2) l) g
-          (subst (λ (l : List ℕ). Bounds (pointAt xs ys) l (n - 2) (set (set lows j 0) i 0)) e (round-bounds (pointAt xs ys) w n i j lows (at .0) (at .1) B)),
-      subst (λ (l : List ℕ). Round (pointsOf xs ys) w l n count fs (set fs count (getD w i 0)) ss (set ss count (getD w j 0))) e
-          (round-is (pointsOf xs ys) w n i j d count fs ss (W .long) h is),
+    let e : w₂ ≡ without w n i j = e₂ ∙ ap (λ (l : List ℕ). set l i (getD l (n - 2) 0)) e₁ ∙ ap (λ (m : ℕ). set (moved w n j) i (getD (moved w n j) m 0)) less in
+    let g : lows₂ ≡ set (set lows j 0) i 0 = g₂ ∙ ap (λ (l : List ℕ). set l i 0) g₁ in (
+      subst (λ (l : List ℕ). Bounds f w₂ (n - 2) l) (sym g)
+          (subst (λ (l : List ℕ). Bounds f l (n - 2) (set (set lows j 0) i 0)) (sym e) (round-bounds f w n i j lows (at .0) (at .1) B)),
+      record { from = i; to = j; squared = d; nearest = is; first = refl; second = refl; rest = e },
     )
 
--- `count` of the pairs ps are written, and `left` are to be written
-pub record Writing (ps left : List Pair) (count : ℕ) (fs fs' ss ss' : List ℕ) : Type 0 where
-  pub counts : count + length left ≡ length ps
-  pub firsts : sets fs' count (firstsOf left) ≡ sets fs 0 (firstsOf ps)
-  pub seconds : sets ss' count (secondsOf left) ≡ sets ss 0 (secondsOf ps)
+-- ---- all rounds: `count` pairs are written, and `left` nodes of the working list w are to be paired
 
-module _ (ns : List Point) (w₀ : List ℕ) (n : ℕ) (fs ss : List ℕ) where
-  pub writing-start : Writing (greedyPairs n ns (take n w₀)) (greedyPairs (n - 0) ns (take n w₀)) 0 fs fs ss ss
-  writing-start =
-      let all : n - 0 ≡ n = omega arith in
-      record {
-        counts = omega (arith, ap (λ (k : ℕ). length (greedyPairs k ns (take n w₀))) all);
-        firsts = ap (λ (k : ℕ). sets fs 0 (firstsOf (greedyPairs k ns (take n w₀)))) all;
-        seconds = ap (λ (k : ℕ). sets ss 0 (secondsOf (greedyPairs k ns (take n w₀)))) all;
-      }
+pub record Writing (ns : List Point) (n all left count : ℕ) (w₀ w fs ss : List ℕ) : Type 0 where
+  pub sum : left + 2 * count ≡ all
+  pub nodes : AreNodes n w left
+  pub room : PairRoom fs ss
+  pub pairs : pairsIn fs ss 0 count ++ greedyPairs (all - count) ns (take left w) ≡ greedyPairs all ns (take all w₀)
 
-  pub writing-round : (w w' : List ℕ) (m count : ℕ) (fs' fs'' ss' ss'' : List ℕ) → count < n → Round ns w w' m count fs' fs'' ss' ss''
-      → Writing (greedyPairs n ns (take n w₀)) (greedyPairs (n - count) ns (take m w)) count fs fs' ss ss'
-      → Writing (greedyPairs n ns (take n w₀)) (greedyPairs (n - (count + 1)) ns (take (m - 2) w')) (count + 1) fs fs'' ss ss''
-  writing-round w w' m count fs' fs'' ss' ss'' h R S =
-      let more : n - count ≡ suc (n - (count + 1)) = omega arith in
-      record {
-        counts = omega (arith, S .counts, R .counts (n - (count + 1)), ap (λ (k : ℕ). length (greedyPairs k ns (take m w))) more);
-        firsts = R .firsts (n - (count + 1)) ∙ sym (ap (λ (k : ℕ). sets fs' count (firstsOf (greedyPairs k ns (take m w)))) more) ∙ S .firsts;
-        seconds = R .seconds (n - (count + 1)) ∙ sym (ap (λ (k : ℕ). sets ss' count (secondsOf (greedyPairs k ns (take m w)))) more) ∙ S .seconds;
-      }
+module _ (n : ℕ) (xs ys : List ℕ) (all : ℕ) (w₀ : List ℕ) where
+  pub writing-start : (fs ss : List ℕ) → AreNodes n w₀ all → PairRoom fs ss → Writing (nodesIn n xs ys) n all all 0 w₀ w₀ fs ss
+  unfolding pairsIn
+  writing-start fs ss W R =
+      let e : all - 0 ≡ all = omega arith in
+      record { sum = omega arith; nodes = W; room = R; pairs = ap (λ (k : ℕ). greedyPairs k (nodesIn n xs ys) (take all w₀)) e }
 
-  pub writing-end : (w : List ℕ) (m count : ℕ) (fs' ss' : List ℕ) → m ≤ 2 → m ≤ length w
-      → Writing (greedyPairs n ns (take n w₀)) (greedyPairs (n - count) ns (take m w)) count fs fs' ss ss'
-      → Written (greedyPairs n ns (take n w₀)) count fs fs' ss ss'
-  writing-end w m count fs' ss' h long S =
-      let none = round-end (n - count) ns w m h long in
-      record {
-        counts = omega (arith, S .counts, ap length none);
-        firsts = sym (ap (λ (ps : List Pair). sets fs' count (firstsOf ps)) none) ∙ S .firsts;
-        seconds = sym (ap (λ (ps : List Pair). sets ss' count (secondsOf ps)) none) ∙ S .seconds;
-      }
+  module _ (left count : ℕ) (w fs ss : List ℕ) (S : Writing (nodesIn n xs ys) n all left count w₀ w fs ss) where
+    pub writing-round : (w' fs' ss' : List ℕ) → 2 < left → count < mostPairs → Round (pointIn xs ys) left count w w' fs fs' ss ss'
+        → Writing (nodesIn n xs ys) n all (left - 2) (count + 1) w₀ w' fs' ss'
+    writing-round w' fs' ss' h room R =
+        let ns = nodesIn n xs ys in
+        let W = S .nodes in
+        let at = found-places (pointIn xs ys) w left (R .from) (R .to) (R .squared) (W .long) (R .nearest) (omega arith) in
+        let is : closest (map (λ (v : ℕ). getD ns v noPoint) (take left w)) 0 nothing ≡ between (R .from) (R .to) (R .squared) =
+        ap (λ (ps : List Point). closest ps 0 nothing) (sym (points-of n xs ys w left W)) ∙ R .nearest in
+        let more : all - count ≡ suc (all - (count + 1)) = omega (arith, S .sum) in
+        let p = pair (getD w (R .from) 0) (getD w (R .to) 0) in
+        let rest = greedyPairs (all - (count + 1)) ns (take (left - 2) w') in
+        let turned : greedyPairs (all - count) ns (take left w) ≡ p ∷ rest =
+        ap (λ (k : ℕ). greedyPairs k ns (take left w)) more
+        ∙ round-pairs ns w left (R .from) (R .to) (R .squared) (W .long) is h (all - (count + 1))
+        ∙ ap (λ (l : List ℕ). p ∷ greedyPairs (all - (count + 1)) ns (take (left - 2) l)) (sym (R .rest)) in
+        let less : left - 1 - 1 ≡ left - 2 = omega arith in
+        record {
+          sum = omega (arith, S .sum);
+          nodes = subst (λ (l : List ℕ). AreNodes n l (left - 2)) (sym (R .rest))
+              (subst (AreNodes n (without w left (R .from) (R .to))) less
+              (nodes-removed n (moved w left (R .to)) (left - 1) (nodes-removed n w left W (R .to) (at .1)) (R .from) (omega (arith, at .0, at .1))));
+          room = rw (R .first, R .second) (room-more fs ss (S .room) count (getD w (R .from) 0) (getD w (R .to) 0) room);
+          pairs =
+              rw (R .first, R .second)
+              (ap (λ (qs : List Pair). qs ++ rest) (pairs-more fs ss (S .room) count (getD w (R .from) 0) (getD w (R .to) 0) room)
+              ∙ append-assoc (pairsIn fs ss 0 count) (p ∷ []) rest
+              ∙ ap (λ (qs : List Pair). pairsIn fs ss 0 count ++ qs) (sym turned) ∙ S .pairs);
+        }
+
+    pub writing-end : left ≤ 2 → pairsIn fs ss 0 count ≡ greedyPairs all (nodesIn n xs ys) (take all w₀)
+    writing-end h =
+        sym (append-nil (pairsIn fs ss 0 count))
+        ∙ ap (λ (qs : List Pair). pairsIn fs ss 0 count ++ qs) (sym (round-end (all - count) (nodesIn n xs ys) w left h (S .nodes .long)))
+        ∙ S .pairs

@@ -1,31 +1,21 @@
--- One round of Greedy on a working list in a flat list: the nearest two are paired, and the last nodes take their places. Assumes nothing.
+-- One round of Greedy on a working list in a flat list: the nearest two are paired, and the last nodes take their places.
 use mathlib.Core.Path.{_≡_}
 use mathlib.Core.List.{List, map}
-use Prim.Native.Nat.{ℕ, suc, _+_, _-_}
-use lib.ListN.{length, take}
-use lib.Seq.{sets}
+use Prim.Native.Nat.{ℕ, _-_}
+use lib.ListN.{getD, take, set}
 use Rattle.drawing_spec.specs.Drawing.{Point}
-use Rattle.repair_spec.specs.Pairing.{Pair, greedyPairs}
+use Rattle.repair_spec.specs.Pairing.{nothing, between, closest}
 
--- ---- what a round leaves to the rounds after it
+-- the last of n takes the place i
+abbrev pub moved : List ℕ → ℕ → ℕ → List ℕ
+moved w n i = set w i (getD w (n - 1) 0)
 
-abbrev pub firstsOf : List Pair → List ℕ
-firstsOf ps = map (λ (p : Pair). p .from) ps
-
-abbrev pub secondsOf : List Pair → List ℕ
-secondsOf ps = map (λ (p : Pair). p .to) ps
-
--- The pair number `count` is written, and the first n - 2 of w' are left of the first n of w: the pairs from there on are those that were to be
--- written before, whatever the fuel.
-pub record Round (ns : List Point) (w w' : List ℕ) (n count : ℕ) (fs fs' ss ss' : List ℕ) : Type 0 where
-  pub firsts : (k : ℕ) → sets fs' (count + 1) (firstsOf (greedyPairs k ns (take (n - 2) w'))) ≡ sets fs count (firstsOf (greedyPairs (suc k) ns (take n w)))
-  pub seconds : (k : ℕ) → sets ss' (count + 1) (secondsOf (greedyPairs k ns (take (n - 2) w'))) ≡ sets ss count (secondsOf (greedyPairs (suc k) ns (take n w)))
-  pub counts : (k : ℕ) → length (greedyPairs (suc k) ns (take n w)) ≡ suc (length (greedyPairs k ns (take (n - 2) w')))
-
--- ---- all rounds
-
--- the pairs ps stand in the two lists from the front, and there are `count` of them
-pub record Written (ps : List Pair) (count : ℕ) (fs fs' ss ss' : List ℕ) : Type 0 where
-  pub counts : count ≡ length ps
-  pub firsts : fs' ≡ sets fs 0 (firstsOf ps)
-  pub seconds : ss' ≡ sets ss 0 (secondsOf ps)
+-- The nodes at the places `from` and `to` are the nearest two of the first n of w. They are written as the pair number `count`, and go, the later one first.
+pub record Round (f : ℕ → Point) (n count : ℕ) (w w' fs fs' ss ss' : List ℕ) : Type 0 where
+  pub from : ℕ
+  pub to : ℕ
+  pub squared : ℕ
+  pub nearest : closest (map f (take n w)) 0 nothing ≡ between from to squared
+  pub first : fs' ≡ set fs count (getD w from 0)
+  pub second : ss' ≡ set ss count (getD w to 0)
+  pub rest : w' ≡ moved (moved w n to) (n - 1) from

@@ -3,7 +3,7 @@ use Prim.Native.Nat.{ℕ, zero, suc, _+_, _-_, _/_, _%_, _^_, _≤_, _<_}
 use native.Mathlib.Omega.{arith}
 use mathlib.Core.Path.{_≡_, refl, sym, ap, _∙_}
 use mathlib.Core.Logic.{_⊎_, inl, inr}
-use mathlib.Core.List.{List, [], _∷_, map}
+use mathlib.Core.List.{List, [], _∷_}
 use mathlib.Core.Bool.{Bool, true, false}
 use lib.ListN.{length}
 use lib.Dec.{ltb}
@@ -13,9 +13,8 @@ use borrow.Author.Tests.{ltb-true, ltb-false}
 use Rattle.graph_spec.specs.Graph.{Edge}
 use Rattle.graph_spec.specs.Degree.{oddFrom, oddNodes}
 use Rattle.graph_spec.proofs.Handshake.{odd-step}
-use Rattle.repair_spec.specs.Pairing.{optimalPairs}
 use Rattle.repair_masks.specs.Places.{nodeAt, optimalPlaces}
-use Rattle.repair_masks.proofs.Places.{Apart, pairOf, optimal-places}
+use Rattle.repair_masks.proofs.Places.{Apart}
 use Rattle.repair_masks.specs.Table.{pairing}
 use Rattle.repair_masks.proofs.Table.{Known, needed-first}
 use Rattle.repair_masks.specs.Left.{leftOut}
@@ -83,12 +82,3 @@ odd-apart n es i j h k e = go (ltb i j) refl (ltb j i) refl
     go true p t q = absurd (omega (arith, from-ascends es n 0 i j (ltb-true i j p) k))
     go false p true q = absurd (omega (arith, from-ascends es n 0 j i (ltb-true j i q) h))
     go false p false q = omega (arith, ltb-false i j p, ltb-false j i q)
-
--- Optimal's pairs of the odd nodes vs
-pub optimal-nodes : (vs : List ℕ) (D d : ℕ → ℕ → Float) (cost : ℕ → Float) (partner : ℕ → ℕ) → length vs % 2 ≡ 0 → 2 ≤ length vs → length vs ≤ 64
-    → Apart (nodeAt vs) (length vs)
-    → ((i j : ℕ) → i < length vs → j < length vs → D (nodeAt vs i) (nodeAt vs j) ≡ d i j)
-    → Right (length vs) d cost partner (2 ^ length vs)
-    → optimalPairs D vs ≡ map (pairOf (nodeAt vs)) (follow (length vs / 2 - 1) partner (leftOut (length vs) cost .at))
-optimal-nodes vs D d cost partner even two fits apart same right =
-    optimal-places D d vs apart same ∙ ap (map (pairOf (nodeAt vs))) (optimal-table (length vs) d cost partner even two fits right)

@@ -5,13 +5,13 @@ use mathlib.Core.Path.{_≡_, refl, sym, ap, _∙_}
 use mathlib.Core.List.{List, [], _∷_, map}
 use mathlib.Core.Bool.{Bool, true, false}
 use lib.ListN.{length, take, drop, length-map}
-use lib.Seq.{drop-cons, take-length}
+use lib.Seq.{drop-cons}
 use lib.Dec.{eqb}
 use lib.Ieee.{Float, binary64, add, lt}
 use borrow.Author.Tests.{eqb-true, eqb-false, eq-eqb, ne-eqb}
 use Rattle.drawing_spec.specs.Members.{All}
 use Rattle.repair_spec.specs.Pairing.{Pair, pair, Matching, matching, Choice, none, chosen, cheaper, choiceOf, without, partner, matchAll, leaveWith, leaveTwo, optimalPairs}
-use Rattle.repair_masks.specs.Places.{nodeAt, optimalPlaces, upTo}
+use Rattle.repair_masks.specs.Places.{nodeAt, pairOf, optimalPlaces, upTo}
 
 -- ---- a list without one of its elements
 
@@ -57,10 +57,7 @@ enough-fuel (suc k) (suc l) d (u ∷ vs) h g =
 
 -- ---- nodes by other numbers
 
--- the pairs, and a pairing, with f of each number
-abbrev pub pairOf : (ℕ → ℕ) → Pair → Pair
-pairOf f p = pair (f (p .from)) (f (p .to))
-
+-- a pairing with f of each number
 abbrev pub renamed : (ℕ → ℕ) → Matching → Matching
 renamed f m = matching (m .cost) (map (pairOf f) (m .pairs))
 
@@ -189,10 +186,3 @@ unfolding optimalPlaces
 optimal-first n d e vs room apart same =
     ap (optimalPairs d) (sym (first-places vs n 0 (omega arith)))
     ∙ optimal-renamed (nodeAt vs) n apart d e same (upTo n 0) (up-to-below n n 0 (omega arith))
-
--- and of a whole list
-pub optimal-places : (d e : ℕ → ℕ → Float) (vs : List ℕ) → Apart (nodeAt vs) (length vs)
-    → ((i j : ℕ) → i < length vs → j < length vs → d (nodeAt vs i) (nodeAt vs j) ≡ e i j)
-    → optimalPairs d vs ≡ map (pairOf (nodeAt vs)) (optimalPlaces (length vs) e)
-optimal-places d e vs apart same =
-    ap (optimalPairs d) (sym (take-length vs)) ∙ optimal-first (length vs) d e vs (omega arith) apart same

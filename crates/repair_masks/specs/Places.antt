@@ -3,7 +3,7 @@ use Prim.Native.Nat.{ℕ, zero, suc}
 use mathlib.Core.List.{List, [], _∷_}
 use lib.ListN.{getD}
 use lib.Ieee.{Float}
-use Rattle.repair_spec.specs.Pairing.{Pair, optimalPairs}
+use Rattle.repair_spec.specs.Pairing.{Pair, pair, optimalPairs}
 
 -- ---- the places in a list
 
@@ -14,6 +14,10 @@ upTo (suc k) i = i ∷ upTo k (suc i)
 
 abbrev pub nodeAt : List ℕ → ℕ → ℕ
 nodeAt vs i = getD vs i 0
+
+-- a pair with f of each number
+abbrev pub pairOf : (ℕ → ℕ) → Pair → Pair
+pairOf f p = pair (f (p .from)) (f (p .to))
 
 -- the pairs as places, by the distances between places
 unfoldable pub optimalPlaces : ℕ → (ℕ → ℕ → Float) → List Pair

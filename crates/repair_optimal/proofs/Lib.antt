@@ -1,3 +1,2 @@
--- Laws of the definitions in specs/.
-pub mod Nodes
+-- Laws for the proofs of the code.
 pub mod Turns

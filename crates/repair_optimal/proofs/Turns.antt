@@ -1,29 +1,28 @@
 -- One turn of each loop.
 use Prim.Native.Nat.{ℕ, zero, suc, _+_, _-_, _*_, _/_, _%_, _^_, _≤_, _<_}
 use native.Mathlib.Omega.{arith}
-use native.Mathlib.Nat.{le-of-suc-le-suc}
 use native.Mathlib.Numerals.{add-one}
-use mathlib.Core.Path.{_≡_, refl, sym, ap, _∙_}
-use mathlib.Core.List.{List, [], _∷_, _++_, map, append-nil}
-use lib.ListN.{length, getD, set, drop, replicate}
-use lib.Seq.{sets, drop-length}
+use mathlib.Core.Path.{_≡_, sym, ap, _∙_}
+use mathlib.Core.List.{List, [], _∷_, _++_, map, append-assoc, append-nil}
+use lib.ListN.{getD, set}
 use lib.Count.{ones}
 use lib.Pow.{pow-mono}
-use lib.Ieee.{Float, nan, binary64, ofBits}
-use Rattle.repair_spec.specs.Distance.{zeroLength}
+use lib.Ieee.{Float, nan}
+use Rattle.limits.specs.Limits.{mostPairs}
 use Rattle.repair_spec.specs.Pairing.{Pair, pair}
+use Rattle.repair_spec.specs.PairsIn.{pairsIn, PairRoom}
+use Rattle.repair_spec.proofs.PairsIn.{pairs-more, room-more}
 use Rattle.repair_masks.specs.Masks.{Bit}
 use Rattle.repair_masks.proofs.Masks.{bit-power, lowest-bit, full-bit, bit-other, ones-without, ones-zero}
 use Rattle.repair_masks.specs.Table.{Least, least, lesser, low, Needed}
 use Rattle.repair_masks.proofs.Table.{needed-first, needed-rest}
 use Rattle.repair_masks.specs.Left.{leaveFrom, leaveEach, leftOut}
 use Rattle.repair_masks.specs.Follow.{follow}
-use Rattle.repair_masks.specs.Places.{optimalPlaces}
+use Rattle.repair_masks.specs.Places.{nodeAt, pairOf, optimalPlaces}
 use Rattle.repair_masks.proofs.Left.{optimal-left}
 use Rattle.repair_masks.proofs.Optimal.{right-known, optimal-table}
 use Rattle.repair_table.specs.Tables.{costs, matrix, partnerIn, Filled}
-use Rattle.repair_optimal.specs.Stored.{Partnered, startsOf, endsOf, Stored}
-use Rattle.repair_table.proofs.FillLaws.{zero-bits}
+use Rattle.repair_optimal.specs.Partners.{Partnered}
 
 -- ---- the two that are left out
 
@@ -87,22 +86,40 @@ pair-out n m i j p q h f some e g k s w =
     let c = bit-power j (m - 2 ^ low m) s in
     rw (g, k, e) (omega arith, omega arith, needed-rest n m j some word s w)
 
--- f of each pair, stored
-pub stored-turn : (f : Pair → ℕ) (bs : List ℕ) (count t m i j p q : ℕ) (l : List ℕ) (v : ℕ) (x : List ℕ) → t < count
-    → i ≡ low m → j ≡ partnerIn bs m → p ≡ 2 ^ i → q ≡ 2 ^ j → v ≡ f (pair i j)
-    → sets l t (map f (follow (count - t) (partnerIn bs) m)) ≡ x
-    → sets (set l t v) (t + 1) (map f (follow (count - (t + 1)) (partnerIn bs) (m - p - q))) ≡ x
-unfolding follow
-stored-turn f bs count t m i j p q l v x h ei ej ep eq ev inv =
-    let k : count - t ≡ suc (count - (t + 1)) = omega arith in
-    rw (ev, eq, ep, ej, ei, add-one t) (rw (k, add-one t) at inv)
+-- t pairs are read back, and those of the mask m are left
+pub record Reading (odd bs : List ℕ) (count mask t m : ℕ) (fs ss : List ℕ) : Type 0 where
+  pub room : PairRoom fs ss
+  pub pairs : pairsIn fs ss 0 t ++ map (pairOf (nodeAt odd)) (follow (count - t) (partnerIn bs) m) ≡ map (pairOf (nodeAt odd)) (follow count (partnerIn bs) mask)
 
-pub stored-over : (f : Pair → ℕ) (bs : List ℕ) (count t m : ℕ) (l x : List ℕ) → count ≤ t → sets l t (map f (follow (count - t) (partnerIn bs) m)) ≡ x → l ≡ x
-unfolding follow
-stored-over f bs count t m l x h inv = let k : count - t ≡ 0 = omega arith in rw k at inv
+module _ (odd bs : List ℕ) (count mask : ℕ) where
+  pub reading-start : (fs ss : List ℕ) → PairRoom fs ss → Reading odd bs count mask 0 mask fs ss
+  unfolding pairsIn
+  reading-start fs ss R = let k : count - 0 ≡ count = omega arith in record { room = R; pairs = rw k }
 
-pub stored-first : (f : Pair → ℕ) (bs : List ℕ) (count m : ℕ) (l : List ℕ) → sets l 0 (map f (follow (count - 0) (partnerIn bs) m)) ≡ sets l 0 (map f (follow count (partnerIn bs) m))
-stored-first f bs count m l = let k : count - 0 ≡ count = omega arith in rw k
+  pub reading-turn : (t m i j p q : ℕ) (fs ss : List ℕ) → t < count → count ≤ mostPairs → i ≡ low m → j ≡ partnerIn bs m → p ≡ 2 ^ i → q ≡ 2 ^ j
+      → Reading odd bs count mask t m fs ss → Reading odd bs count mask (t + 1) (m - p - q) (set fs t (nodeAt odd i)) (set ss t (nodeAt odd j))
+  unfolding follow
+  reading-turn t m i j p q fs ss h few ei ej ep eq R =
+      let u = nodeAt odd i in
+      let v = nodeAt odd j in
+      let rest = map (pairOf (nodeAt odd)) (follow (count - (t + 1)) (partnerIn bs) (m - p - q)) in
+      let k : count - t ≡ suc (count - (t + 1)) = omega arith in
+      let turned : map (pairOf (nodeAt odd)) (follow (count - t) (partnerIn bs) m) ≡ pair u v ∷ rest = rw (k, eq, ep, ej, ei) in
+      record {
+        room = room-more fs ss (R .room) t u v (omega arith);
+        pairs =
+            ap (λ (qs : List Pair). qs ++ rest) (pairs-more fs ss (R .room) t u v (omega arith))
+            ∙ append-assoc (pairsIn fs ss 0 t) (pair u v ∷ []) rest
+            ∙ ap (λ (qs : List Pair). pairsIn fs ss 0 t ++ qs) (sym turned) ∙ R .pairs;
+      }
+
+  pub reading-over : (t m : ℕ) (fs ss : List ℕ) → t ≡ count → Reading odd bs count mask t m fs ss
+      → pairsIn fs ss 0 count ≡ map (pairOf (nodeAt odd)) (follow count (partnerIn bs) mask)
+  unfolding follow
+  reading-over t m fs ss e R =
+      let k : count - t ≡ 0 = omega arith in
+      let none : map (pairOf (nodeAt odd)) (follow (count - t) (partnerIn bs) m) ≡ [] = rw k in
+      ap (pairsIn fs ss 0) (sym e) ∙ sym (append-nil (pairsIn fs ss 0 t)) ∙ ap (λ (qs : List Pair). pairsIn fs ss 0 t ++ qs) (sym none) ∙ R .pairs
 
 -- ---- from a table that is filled
 
@@ -117,37 +134,3 @@ module _ (n : ℕ) (ws₀ ws : List Float) (bs : List ℕ) (even : n % 2 ≡ 0) 
 
   pub filled-optimal : (mask : ℕ) → mask ≡ leftOut n (costs ws) .at → follow (n / 2 - 1) (partnerIn bs) mask ≡ optimalPlaces n (matrix n ws₀)
   filled-optimal mask e = rw e (sym (optimal-table n (matrix n ws₀) (costs ws) (partnerIn bs) even two (omega arith) (f .right)))
-
-follow-length : (k : ℕ) (partner : ℕ → ℕ) (m : ℕ) → length (follow k partner m) ≡ k
-unfolding follow
-follow-length zero partner m = refl
-follow-length (suc k) partner m = ap suc (follow-length k partner _)
-
--- the pairs of the mask, as nodes in the two lists
-pub stored-pairs : (odd bs : List ℕ) (count mask : ℕ) (ps : List Pair) (starts starts' ends ends' : List ℕ)
-    → follow count (partnerIn bs) mask ≡ ps
-    → starts' ≡ sets starts 0 (startsOf odd (follow count (partnerIn bs) mask)) → ends' ≡ sets ends 0 (endsOf odd (follow count (partnerIn bs) mask))
-    → Stored odd ps count starts starts' ends ends'
-stored-pairs odd bs count mask ps starts starts' ends ends' e s t = record {
-  counts = sym (follow-length count (partnerIn bs) mask) ∙ ap length e;
-  starts-are = s ∙ ap (λ (qs : List Pair). sets starts 0 (startsOf odd qs)) e;
-  ends-are = t ∙ ap (λ (qs : List Pair). sets ends 0 (endsOf odd qs)) e;
-}
-
--- ---- clearing
-
-module _ {A : Type 0} (z : A) where
-  clear-suc : (n : ℕ) (d : List A) → n < length d → set (replicate n z ++ drop n d) n z ≡ replicate (suc n) z ++ drop (suc n) d
-  clear-suc n [] h = absurd (omega arith)
-  clear-suc zero (x ∷ d) h = refl
-  clear-suc (suc n) (x ∷ d) h = ap (λ (t : List A). z ∷ t) (clear-suc n d (le-of-suc-le-suc h))
-
-  pub clear-turn : (n : ℕ) (d l : List A) → n < length d → l ≡ replicate n z ++ drop n d → set l n z ≡ replicate (n + 1) z ++ drop (n + 1) d
-  clear-turn n d l h e = rw (e, add-one n) (clear-suc n d h)
-
-  pub clear-over : (n : ℕ) (d l : List A) → n ≡ length d → l ≡ replicate n z ++ drop n d → l ≡ replicate (length d) z
-  clear-over n d l h e = e ∙ rw (h, drop-length d, append-nil (replicate (length d) z))
-
-pub clear-floats-turn : (n : ℕ) (d l : List Float) → n < length d → l ≡ replicate n zeroLength ++ drop n d
-    → set l n (ofBits binary64 0) ≡ replicate (n + 1) zeroLength ++ drop (n + 1) d
-clear-floats-turn n d l h e = ap (set l n) zero-bits ∙ clear-turn zeroLength n d l h e

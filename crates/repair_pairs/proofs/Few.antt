@@ -1,4 +1,4 @@
--- Of two odd nodes or fewer no pair is retraced: `fixParity` needs no case for them. Assumes nothing.
+-- Of two odd nodes or fewer no pair is retraced: `fixParity` needs no case for them.
 use mathlib.Core.Path.{_≡_, refl, sym, ap, _∙_}
 use mathlib.Core.Bool.{Bool, true, false}
 use mathlib.Core.List.{List, [], _∷_}
@@ -44,10 +44,11 @@ pairs-few g s vs h = go (optimal s)
     go false = greedy-few g vs h
 
 -- so repair is one phase for any number of odd nodes
-pub fix-parity-is : (g : Graph) (s : Settings)
-    → fixParity g s ≡ closeIf (closing s) (length (g .nodes)) (applyMatching (length (g .nodes)) (pairsOf g s (oddNodes (length (g .nodes)) (g .edges))) (drawn g))
+pub fix-parity-is : (most number : ℕ) (g : Graph) (s : Settings)
+    → fixParity most number g s
+    ≡ closeIf (closing s) most number (length (g .nodes)) (applyMatching most number (length (g .nodes)) (pairsOf g s (oddNodes (length (g .nodes)) (g .edges))) (drawn g))
 unfolding fixParity applyMatching
-fix-parity-is g s = go (leb (length odd) 2) refl
+fix-parity-is most number g s = go (leb (length odd) 2) refl
   where
     n : ℕ
     n = length (g .nodes)
@@ -57,8 +58,8 @@ fix-parity-is g s = go (leb (length odd) 2) refl
 
     go : (t : Bool) → leb (length odd) 2 ≡ t
         → elim t [
-          | true ↦ closeIf (closing s) n (Repairing.repaired (drawn g))
-          | false ↦ closeIf (closing s) n (applyMatching n (pairsOf g s odd) (drawn g))
-        ] ≡ closeIf (closing s) n (applyMatching n (pairsOf g s odd) (drawn g))
-    go true e = sym (ap (λ (ps : List Pair). closeIf (closing s) n (applyMatching n ps (drawn g))) (pairs-few g s odd (leb-true (length odd) 2 e)))
+          | true ↦ closeIf (closing s) most number n (Repairing.repaired (drawn g))
+          | false ↦ closeIf (closing s) most number n (applyMatching most number n (pairsOf g s odd) (drawn g))
+        ] ≡ closeIf (closing s) most number n (applyMatching most number n (pairsOf g s odd) (drawn g))
+    go true e = sym (ap (λ (ps : List Pair). closeIf (closing s) most number n (applyMatching most number n ps (drawn g))) (pairs-few g s odd (leb-true (length odd) 2 e)))
     go false e = refl

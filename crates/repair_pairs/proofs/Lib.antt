@@ -1,7 +1,6 @@
--- Laws of the definitions in specs/.
-pub mod Closing
+-- Laws of the definitions in specs/, and what the pairs are of.
 pub mod Few
 pub mod Joined
 pub mod Refusal
-pub mod Within
-pub mod Written
+pub mod PairsLaws
+pub mod Usable

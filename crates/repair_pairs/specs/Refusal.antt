@@ -1,26 +1,25 @@
--- Conditions 10 and 11 of document 01, as one number: 10 before 11, 0 for neither. Assumes nothing.
-use mathlib.Core.Path.{_≡_}
-use mathlib.Core.Bool.{Bool, true, false}
+-- Conditions 10 and 11 of document 01, for n odd nodes and tables of these lengths.
+use mathlib.Core.List.{List, [], _∷_}
 use Prim.Native.Nat.{ℕ, _+_, _*_, _^_, _≤_}
-use Rattle.limits.specs.Limits.{mostOdd}
+use Rattle.limits.specs.Limits.{mostOdd, refusedOdd, refusedTables}
 use Rattle.drawing_spec.specs.Drawing.{Settings}
+use Rattle.drawing_spec.specs.Refusal.{Condition, condition, Verdict, refused, accepted, verdict}
 use Rattle.repair_spec.specs.Repair.{tooManyOdd, tableShort}
 
-abbrev pub firstOf : Bool → Bool → ℕ
-firstOf true short = 10
-firstOf false true = 11
-firstOf false false = 0
+unfoldable pub tableConditions : Settings → ℕ → ℕ → ℕ → List Condition
+unfolding tooManyOdd tableShort
+tableConditions s n floats bytes = condition refusedOdd (tooManyOdd mostOdd s n) ∷ condition refusedTables (tableShort mostOdd s n floats bytes) ∷ []
+
+-- 0 where none holds
+abbrev pub numberOf : Verdict → ℕ
+numberOf (refused k) = k
+numberOf accepted = 0
 
 abbrev pub refusal : Settings → ℕ → ℕ → ℕ → ℕ
-refusal s n floats bytes = firstOf (tooManyOdd mostOdd s n) (tableShort mostOdd s n floats bytes)
+refusal s n floats bytes = numberOf (verdict (tableConditions s n floats bytes))
 
--- what is left when neither condition holds: Optimal's table has its room
+-- what Optimal needs for n odd nodes
 pub record Room (n floats bytes : ℕ) : Type 0 where
-  pub few : n ≤ 20
-  pub for-floats : 4 ≤ n → 2 ^ n + n * n ≤ floats
-  pub for-bytes : 4 ≤ n → 2 ^ n ≤ bytes
-
--- the answer r of the code for a pairing
-pub record Refused (pairing n floats bytes r : ℕ) : Type 0 where
-  pub is : (s : Settings) → s .pairing ≡ pairing → r ≡ refusal s n floats bytes
-  pub room : r ≡ 0 → pairing ≡ 1 → Room n floats bytes
+  pub few : n ≤ mostOdd
+  pub for-floats : 2 ^ n + n * n ≤ floats
+  pub for-bytes : 2 ^ n ≤ bytes

@@ -1,42 +1,36 @@
 // Which odd nodes repair joins by retraces: the pairs of Greedy or of Optimal, and the refusals of Optimal's
-// table. n nodes and m edges are read of the arrays; `graphIn` is that graph.
+// table. What the lent tables hold afterwards is left open: whoever lent them clears them once, at the end.
 ghost use mathlib.Core.Path.{_≡_};
-ghost use mathlib.Core.List.{List};
-ghost use Prim.Native.Nat.{_+_, _*_, _^_, _<_, _≤_};
-ghost use lib.ListN.{length, replicate};
-ghost use Rattle.limits.specs.Limits.{mostNodes, edgeRoom};
-ghost use Rattle.drawing_spec.specs.Drawing.{Settings};
-ghost use Rattle.graph_spec.specs.Graph.{Edge};
+ghost use Prim.Native.Nat.{_<_};
+ghost use lib.ListN.{length};
+ghost use Rattle.file_records.specs.Meaning.{settingsOf};
 ghost use Rattle.graph_spec.specs.Degree.{oddNodes};
-ghost use Rattle.repair_spec.specs.Distance.{zeroLength};
+ghost use Rattle.graph_adjacency.specs.Lists.{adjacency};
+ghost use Rattle.graph_arrays.specs.Arrays.{edgesIn, graphIn, EdgesHeld, NodesHeld, Front};
 ghost use Rattle.repair_spec.specs.Pairing.{optimalPairs};
+ghost use Rattle.repair_spec.specs.PairsIn.{pairsIn, PairRoom};
 ghost use Rattle.repair_spec.specs.Repair.{rows, distanceIn, pairsOf};
-ghost use Rattle.repair_greedy.specs.Rounds.{Written};
-ghost use Rattle.graph_arrays.specs.Read.{edgesIn, graphIn, EdgesSound, NodesSound, Front};
-ghost use Rattle.graph_edge_arrays.specs.Held.{EndsHeld};
-ghost use Rattle.graph_odd.specs.Degrees.{EndsBelow};
-ghost use Rattle.repair_pairs.specs.Closing.{closingPairs};
-ghost use Rattle.repair_pairs.specs.Refusal.{Room, Refused};
-ghost use Rattle.repair_pairs.specs.Written.{Outcome};
+ghost use Rattle.repair_pairs.specs.Refusal.{Room, refusal};
+ghost use Rattle.repair_pairs.specs.Pairs.{pairsFor};
+ghost use Rattle.repair_pairs.specs.Meaning.{foundIn};
+use file_records::Settings;
+use limits::ARC_ROOM;
 use limits::EDGE_ROOM;
 use limits::MOST_NODES;
-use repair_greedy::PAIR_ROOM;
+use limits::MOST_ODD;
+use limits::MOST_PAIRS;
+use limits::REFUSED_ODD;
+use limits::REFUSED_TABLES;
 
 // The pairing byte of Optimal.
 const OPTIMAL: u8 = 1;
 
-// Refusals 10 and 11.
-const MOST_ODD: usize = 20;
-
-const REFUSED_ODD: u8 = 10;
-
-const REFUSED_TABLE: u8 = 11;
-
-// Conditions 10 and 11, for n odd nodes and tables of these lengths; 0 where neither holds.
-pub fn optimal_refusal(pairing: u8, n: usize, floats: usize, bytes: usize) -> u8
-    ensures { λ r. ⌜ Refused pairing n floats bytes r ⌝ }
+// The number of the condition that holds, 10 or 11, for n odd nodes and tables of these lengths; 0 where
+// neither does.
+fn optimal_refusal(settings: Settings, n: usize, floats: usize, bytes: usize) -> u8
+    ensures { λ r. ⌜ r ≡ refusal (settingsOf settings) n floats bytes ⌝ }
 {
-    if pairing != OPTIMAL {
+    if settings.pairing != OPTIMAL {
         return 0;
     }
     if MOST_ODD < n {
@@ -47,19 +41,19 @@ pub fn optimal_refusal(pairing: u8, n: usize, floats: usize, bytes: usize) -> u8
     }
     let states = repair_table::power(n);
     if floats < states + n * n {
-        return REFUSED_TABLE;
+        return REFUSED_TABLES;
     }
     if bytes < states {
-        return REFUSED_TABLE;
+        return REFUSED_TABLES;
     }
     0
 }
 
-// Optimal's pairs of the odd nodes; the answer is their number. The tables are left full.
+// Optimal's pairs of the odd nodes, by the distances between them; the answer is their number.
 fn optimal_of(
-    ends: &[u16; 2 * EDGE_ROOM],
+    ends: &[u16; ARC_ROOM],
     weights: &[f64; EDGE_ROOM],
-    next: &[u16; 2 * EDGE_ROOM],
+    next: &[u16; ARC_ROOM],
     heads: &[u16; 2 * MOST_NODES],
     n: usize,
     m: usize,
@@ -67,45 +61,45 @@ fn optimal_of(
     count: usize,
     floats: &mut [f64],
     bytes: &mut [u8],
-    firsts: &mut [u16; PAIR_ROOM],
-    seconds: &mut [u16; PAIR_ROOM],
+    firsts: &mut [u16; MOST_PAIRS],
+    seconds: &mut [u16; MOST_PAIRS],
 ) -> usize
-    requires sound { ⌜ EdgesSound n m (now ends) (now weights) (now next) (now heads) ⌝ }
-    requires listed { ⌜ Front (oddNodes n (edgesIn m (now ends) (now weights))) (now odd) count ⌝ }
-    requires room { ⌜ (2 < count) × Room count (length (now floats)) (length (now bytes)) ⌝ }
-    ensures { λ r. ⌜ Written (optimalPairs (distanceIn (rows n (edgesIn m (now (ends .entry)) (now (weights .entry))) (oddNodes n (edgesIn m (now (ends .entry)) (now (weights .entry)))))) (oddNodes n (edgesIn m (now (ends .entry)) (now (weights .entry))))) r (now (firsts .entry)) (now (firsts .exit)) (now (seconds .entry)) (now (seconds .exit)) ⌝ }
+    requires edges { ⌜ EdgesHeld n m (adjacency (now ends) (now weights) (now next) (now heads)) ⌝ }
+    requires listed { ⌜ Front (oddNodes n (edgesIn m (adjacency (now ends) (now weights) (now next) (now heads)))) (now odd) count × (2 < count) ⌝ }
+    requires room { ⌜ Room count (length (now floats)) (length (now bytes)) × PairRoom (now firsts) (now seconds) ⌝ }
+    ensures { λ r. ⌜ pairsIn (now (firsts .exit)) (now (seconds .exit)) 0 r ≡ optimalPairs (distanceIn (rows n (edgesIn m (adjacency (now (ends .entry)) (now (weights .entry)) (now (next .entry)) (now (heads .entry)))) (oddNodes n (edgesIn m (adjacency (now (ends .entry)) (now (weights .entry)) (now (next .entry)) (now (heads .entry))))))) (oddNodes n (edgesIn m (adjacency (now (ends .entry)) (now (weights .entry)) (now (next .entry)) (now (heads .entry))))) ⌝ }
 {
-    repair_distances::fill_rows(ends, weights, next, heads, n, odd, count, floats);
+    repair_distances::fill_rows(ends, weights, next, heads, n, m, odd, count, floats);
     repair_optimal::optimal_pairs(floats, bytes, odd, count, firsts, seconds)
 }
 
-// The pairs that repair retraces, in order: those of the pairing. The answer is their number; the list of odd
-// nodes is used up, and the tables are left full.
-pub fn pairs_of(
+// The pairs that the settings ask for, of the odd nodes, in order; the answer is their number. The list of odd
+// nodes is used up.
+fn pairs_of(
     xs: &[u32; MOST_NODES],
     ys: &[u32; MOST_NODES],
-    ends: &[u16; 2 * EDGE_ROOM],
+    ends: &[u16; ARC_ROOM],
     weights: &[f64; EDGE_ROOM],
-    next: &[u16; 2 * EDGE_ROOM],
+    next: &[u16; ARC_ROOM],
     heads: &[u16; 2 * MOST_NODES],
     n: usize,
     m: usize,
+    settings: Settings,
     odd: &mut [u16; MOST_NODES],
     count: usize,
-    pairing: u8,
     floats: &mut [f64],
     bytes: &mut [u8],
-    firsts: &mut [u16; PAIR_ROOM],
-    seconds: &mut [u16; PAIR_ROOM],
+    firsts: &mut [u16; MOST_PAIRS],
+    seconds: &mut [u16; MOST_PAIRS],
 ) -> usize
-    requires nodes { ⌜ NodesSound (now xs) (now ys) ⌝ }
-    requires edges { ⌜ EdgesSound n m (now ends) (now weights) (now next) (now heads) ⌝ }
-    requires listed { ⌜ Front (oddNodes n (edgesIn m (now ends) (now weights))) (now odd) count ⌝ }
-    requires room { ⌜ (pairing ≡ 1 → Room count (length (now floats)) (length (now bytes))) ⌝ }
-    ensures { λ r. ⌜ ((s : Settings) → s .pairing ≡ pairing → Written (pairsOf (graphIn n m (now (xs .entry)) (now (ys .entry)) (now (ends .entry)) (now (weights .entry))) s (oddNodes n (edgesIn m (now (ends .entry)) (now (weights .entry))))) r (now (firsts .entry)) (now (firsts .exit)) (now (seconds .entry)) (now (seconds .exit))) ⌝ }
+    requires nodes { ⌜ NodesHeld n (now xs) (now ys) ⌝ }
+    requires edges { ⌜ EdgesHeld n m (adjacency (now ends) (now weights) (now next) (now heads)) ⌝ }
+    requires listed { ⌜ Front (oddNodes n (edgesIn m (adjacency (now ends) (now weights) (now next) (now heads)))) (now odd) count ⌝ }
+    requires room { ⌜ (refusal (settingsOf settings) count (length (now floats)) (length (now bytes)) ≡ 0) × PairRoom (now firsts) (now seconds) ⌝ }
+    ensures { λ r. ⌜ pairsIn (now (firsts .exit)) (now (seconds .exit)) 0 r ≡ pairsOf (graphIn n m (now (xs .entry)) (now (ys .entry)) (adjacency (now (ends .entry)) (now (weights .entry)) (now (next .entry)) (now (heads .entry)))) (settingsOf settings) (oddNodes n (edgesIn m (adjacency (now (ends .entry)) (now (weights .entry)) (now (next .entry)) (now (heads .entry))))) ⌝ }
 {
-    if pairing != OPTIMAL {
-        return repair_greedy::greedy_pairs(xs, ys, odd, count, firsts, seconds);
+    if settings.pairing != OPTIMAL {
+        return repair_greedy::greedy_pairs(xs, ys, n, odd, count, firsts, seconds);
     }
     if count <= 2 {
         return 0;
@@ -126,42 +120,40 @@ pub fn pairs_of(
     )
 }
 
-// The number of odd nodes, the number of a refusal or 0, and the number of pairs.
-pub struct Pairs {
-    pub odd: usize,
-    pub refused: u8,
-    pub count: usize,
+pub enum Pairs {
+    // the number of odd nodes, and the number of pairs
+    Found(usize, usize),
+    // the number of a refusal
+    Refused(u8),
 }
 
-// The odd nodes, conditions 10 and 11, and the pairs where neither holds. The tables are left full.
-fn find_pairs(
+// The pairs that repair retraces, in `firsts` and `seconds`; or the refusal 10 or 11, where Optimal has too many
+// odd nodes or too small a table.
+pub fn find_pairs(
     xs: &[u32; MOST_NODES],
     ys: &[u32; MOST_NODES],
-    ends: &[u16; 2 * EDGE_ROOM],
+    ends: &[u16; ARC_ROOM],
     weights: &[f64; EDGE_ROOM],
-    next: &[u16; 2 * EDGE_ROOM],
+    next: &[u16; ARC_ROOM],
     heads: &[u16; 2 * MOST_NODES],
     n: usize,
     m: usize,
-    pairing: u8,
+    settings: Settings,
     floats: &mut [f64],
     bytes: &mut [u8],
-    firsts: &mut [u16; PAIR_ROOM],
-    seconds: &mut [u16; PAIR_ROOM],
+    firsts: &mut [u16; MOST_PAIRS],
+    seconds: &mut [u16; MOST_PAIRS],
 ) -> Pairs
-    requires nodes { ⌜ NodesSound (now xs) (now ys) ⌝ }
-    requires edges { ⌜ EdgesSound n m (now ends) (now weights) (now next) (now heads) ⌝ }
-    ensures { λ r. ⌜ ((s : Settings) → s .pairing ≡ pairing → Outcome (graphIn n m (now (xs .entry)) (now (ys .entry)) (now (ends .entry)) (now (weights .entry))) s (oddNodes n (edgesIn m (now (ends .entry)) (now (weights .entry)))) (length (now (floats .entry))) (length (now (bytes .entry))) (r .odd) (r .refused) (r .count) (now (firsts .entry)) (now (firsts .exit)) (now (seconds .entry)) (now (seconds .exit))) ⌝ }
+    requires nodes { ⌜ NodesHeld n (now xs) (now ys) ⌝ }
+    requires edges { ⌜ EdgesHeld n m (adjacency (now ends) (now weights) (now next) (now heads)) ⌝ }
+    requires room { ⌜ PairRoom (now firsts) (now seconds) ⌝ }
+    ensures { λ r. ⌜ foundIn r (now (firsts .exit)) (now (seconds .exit)) ≡ pairsFor (graphIn n m (now (xs .entry)) (now (ys .entry)) (adjacency (now (ends .entry)) (now (weights .entry)) (now (next .entry)) (now (heads .entry)))) (settingsOf settings) (length (now (floats .entry))) (length (now (bytes .entry))) ⌝ }
 {
     let mut listed = [0u16; MOST_NODES];
-    let odd = graph_odd::odd_nodes(ends, &mut listed, n, m);
-    let refused = optimal_refusal(pairing, odd, floats.len(), bytes.len());
+    let odd = graph_odd::odd_nodes(ends, weights, next, heads, n, m, &mut listed);
+    let refused = optimal_refusal(settings, odd, floats.len(), bytes.len());
     if refused != 0 {
-        return Pairs {
-            odd,
-            refused,
-            count: 0,
-        };
+        return Pairs::Refused(refused);
     }
     let count = pairs_of(
         xs,
@@ -172,81 +164,13 @@ fn find_pairs(
         heads,
         n,
         m,
+        settings,
         &mut listed,
         odd,
-        pairing,
         floats,
         bytes,
         firsts,
         seconds,
     );
-    Pairs {
-        odd,
-        refused: 0,
-        count,
-    }
-}
-
-// The odd nodes, conditions 10 and 11, and the pairs where neither holds. Both tables are zero afterwards,
-// whatever they held and whatever the answer.
-pub fn repair_pairs(
-    xs: &[u32; MOST_NODES],
-    ys: &[u32; MOST_NODES],
-    ends: &[u16; 2 * EDGE_ROOM],
-    weights: &[f64; EDGE_ROOM],
-    next: &[u16; 2 * EDGE_ROOM],
-    heads: &[u16; 2 * MOST_NODES],
-    n: usize,
-    m: usize,
-    pairing: u8,
-    floats: &mut [f64],
-    bytes: &mut [u8],
-    firsts: &mut [u16; PAIR_ROOM],
-    seconds: &mut [u16; PAIR_ROOM],
-) -> Pairs
-    requires nodes { ⌜ NodesSound (now xs) (now ys) ⌝ }
-    requires edges { ⌜ EdgesSound n m (now ends) (now weights) (now next) (now heads) ⌝ }
-    ensures pairs { λ r. ⌜ ((s : Settings) → s .pairing ≡ pairing → Outcome (graphIn n m (now (xs .entry)) (now (ys .entry)) (now (ends .entry)) (now (weights .entry))) s (oddNodes n (edgesIn m (now (ends .entry)) (now (weights .entry)))) (length (now (floats .entry))) (length (now (bytes .entry))) (r .odd) (r .refused) (r .count) (now (firsts .entry)) (now (firsts .exit)) (now (seconds .entry)) (now (seconds .exit))) ⌝ }
-    ensures cleared { λ _. ⌜ (now (floats .exit) ≡ replicate (length (now (floats .entry))) zeroLength) × (now (bytes .exit) ≡ replicate (length (now (bytes .entry))) 0) ⌝ }
-{
-    let pairs = find_pairs(
-        xs,
-        ys,
-        ends,
-        weights,
-        next,
-        heads,
-        n,
-        m,
-        pairing,
-        floats,
-        bytes,
-        firsts,
-        seconds,
-    );
-    repair_optimal::clear_tables(floats, bytes);
-    pairs
-}
-
-// The pair that closes the line: the two nodes that are left odd, in order. The answer is 1, or 0 where none
-// is left.
-pub fn closing_pair(
-    ends: &[u16; 2 * EDGE_ROOM],
-    n: usize,
-    m: usize,
-    firsts: &mut [u16; PAIR_ROOM],
-    seconds: &mut [u16; PAIR_ROOM],
-) -> usize
-    requires room { ⌜ (n ≤ mostNodes) × (m ≤ edgeRoom) ⌝ }
-    requires nodes { ⌜ EndsBelow m (now ends) ⌝ }
-    ensures { λ r. ⌜ ((es : List Edge) → EndsHeld n es (now (ends .entry)) → length es ≡ m → Written (closingPairs n es) r (now (firsts .entry)) (now (firsts .exit)) (now (seconds .entry)) (now (seconds .exit))) ⌝ }
-{
-    let mut listed = [0u16; MOST_NODES];
-    let odd = graph_odd::odd_nodes(ends, &mut listed, n, m);
-    if odd != 2 {
-        return 0;
-    }
-    firsts[0] = listed[0];
-    seconds[0] = listed[1];
-    1
+    Pairs::Found(odd, count)
 }

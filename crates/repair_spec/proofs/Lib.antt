@@ -8,6 +8,7 @@ pub mod Least
 pub mod Matched
 pub mod Nearest
 pub mod Pairs
+pub mod PairsIn
 pub mod Relax
 pub mod Repaired
 pub mod Rounds

@@ -11,6 +11,7 @@ use lib.Count.{ones}
 use lib.Pow.{pow-pos}
 use lib.Ieee.{Float, nan, binary64, ofBits}
 use borrow.Author.Tests.{eq-eqb, eqb-true, eqb-false, lt-ltb, le-ltb, ltb-true, ltb-false}
+use Rattle.sums.proofs.Sum.{zero-bits}
 use Rattle.repair_spec.specs.Distance.{zeroLength}
 use Rattle.repair_spec.specs.Pairing.{matchAll}
 use Rattle.repair_masks.proofs.Masks.{places-none}
@@ -154,10 +155,6 @@ empty-cost n d = ap (λ (l : List ℕ). matchAll n d l .cost) (places-none n) �
     go zero = refl
     go (suc k) = refl
 
-pub zero-bits : ofBits binary64 0 ≡ zeroLength
-unfolding ofBits
-zero-bits = refl
-
 -- no pairs cost 0
 pub filled-first : (n : ℕ) (ws : List Float) (bs : List ℕ) → getD ws 0 nan ≡ zeroLength → Filled n 1 ws ws bs
 filled-first n ws bs e = record { right = λ m h o g. go m h; kept = refl }
@@ -167,7 +164,7 @@ filled-first n ws bs e = record { right = λ m h o g. go m h; kept = refl }
     go (suc m) h = absurd (omega arith)
 
 pub zero-set : (ws : List Float) → 0 < length ws → getD (set ws 0 (ofBits binary64 0)) 0 nan ≡ zeroLength
-zero-set ws h = getD-set-same ws 0 (ofBits binary64 0) nan h ∙ zero-bits
+zero-set ws h = getD-set-same ws 0 (ofBits binary64 0) nan h ∙ zero-bits binary64
 
 -- the cost of no pairs is none of the distances
 pub filled-all : (n m : ℕ) (ws₀ ws : List Float) (bs : List ℕ) (c : Float) → Filled n m (set ws₀ 0 c) ws bs → Filled n m ws₀ ws bs

@@ -3,12 +3,13 @@ ghost use mathlib.Core.Path.{_≡_};
 ghost use Prim.Native.Nat.{ℕ, _+_, _*_, _^_, _-_, _%_, _/_, _<_, _≤_};
 ghost use lib.ListN.{length};
 ghost use lib.Count.{ones};
+ghost use Rattle.limits.specs.Limits.{mostOdd};
 ghost use Rattle.repair_masks.specs.Table.{least, lesser, low, tried, entry};
 ghost use Rattle.repair_table.specs.Tables.{costs, matrix, rowAt, Lowest, isDue, filledCosts, filledPartners, Filled, Next};
 
 // The lowest place of the mask m, of n places.
 pub fn lowest(m: usize, n: usize) -> usize
-    requires { ⌜ (0 < m) × (m < 2 ^ n) × (n ≤ 20) ⌝ }
+    requires { ⌜ (0 < m) × (m < 2 ^ n) × (n ≤ mostOdd) ⌝ }
     ensures { λ r. ⌜ Lowest n m r ⌝ }
 {
     usize::trailing_zeros(m) as usize
@@ -23,7 +24,7 @@ pub fn power(i: usize) -> usize
 
 // Where the distances from the place i start.
 pub fn row_of(n: usize, i: usize) -> usize
-    requires { ⌜ (i < n) × (n ≤ 20) ⌝ }
+    requires { ⌜ (i < n) × (n ≤ mostOdd) ⌝ }
     ensures { λ r. ⌜ (r ≡ 2 ^ n + i * n) × (r + n ≤ 2 ^ n + n * n) ⌝ }
 {
     power(n) + i * n
@@ -48,7 +49,7 @@ pub fn take_lesser(b: Least, c: f64, at: usize) -> Least
 
 // Each place of the mask `others` in turn as the partner; its distances start at `row`.
 pub fn try_partners(table: &[f64], n: usize, row: usize, others: usize) -> Least
-    requires { ⌜ (0 < others) × (others < 2 ^ n) × (n ≤ 20) ⌝ }
+    requires { ⌜ (0 < others) × (others < 2 ^ n) × (n ≤ mostOdd) ⌝ }
     requires { ⌜ (2 ^ n ≤ length (now table)) × (row + n ≤ length (now table)) ⌝ }
     ensures { λ r. ⌜ (least (r .cost) (r .at) ≡ tried (costs (now (table .entry))) (rowAt (now (table .entry)) row) others) × (r .at < n) ⌝ }
 {
@@ -69,7 +70,7 @@ pub fn try_partners(table: &[f64], n: usize, row: usize, others: usize) -> Least
 
 // The entry for the mask m, from those of smaller masks.
 pub fn choose(table: &[f64], n: usize, m: usize) -> Least
-    requires { ⌜ (0 < m) × (m < 2 ^ n) × (n ≤ 20) × (ones m % 2 ≡ 0) ⌝ }
+    requires { ⌜ (0 < m) × (m < 2 ^ n) × (n ≤ mostOdd) × (ones m % 2 ≡ 0) ⌝ }
     requires { ⌜ 2 ^ n + n * n ≤ length (now table) ⌝ }
     ensures { λ r. ⌜ (least (r .cost) (r .at) ≡ entry (matrix n (now (table .entry))) (costs (now (table .entry))) m) × (r .at < n) ⌝ }
 {
@@ -82,7 +83,7 @@ pub fn choose(table: &[f64], n: usize, m: usize) -> Least
 // Whether the mask m is asked for. It must have an even number of places. Two places are left out first; each pair taken
 // out later has its lower place below all that stay. So of the others that m is without, at least half are below its lowest.
 pub fn is_due(m: usize, n: usize) -> bool
-    requires { ⌜ (0 < m) × (m < 2 ^ n) × (n ≤ 20) ⌝ }
+    requires { ⌜ (0 < m) × (m < 2 ^ n) × (n ≤ mostOdd) ⌝ }
     ensures { λ r. ⌜ r ≡ isDue n m ⌝ }
 {
     let places = usize::count_ones(m) as usize;
@@ -94,7 +95,7 @@ pub fn is_due(m: usize, n: usize) -> bool
 
 // The entry for the mask m, written, where m is asked for.
 pub fn fill_mask(table: &mut [f64], partners: &mut [u8], n: usize, m: usize)
-    requires { ⌜ (0 < m) × (m < 2 ^ n) × (n ≤ 20) ⌝ }
+    requires { ⌜ (0 < m) × (m < 2 ^ n) × (n ≤ mostOdd) ⌝ }
     requires { ⌜ (2 ^ n + n * n ≤ length (now table)) × (2 ^ n ≤ length (now partners)) ⌝ }
     ensures { λ _. ⌜ (now (table .exit) ≡ filledCosts n m (now (table .entry))) × (now (partners .exit) ≡ filledPartners n m (now (table .entry)) (now (partners .entry))) ⌝ }
 {
@@ -108,7 +109,7 @@ pub fn fill_mask(table: &mut [f64], partners: &mut [u8], n: usize, m: usize)
 
 // The next mask to look at. Where m is not asked for, none with more places below its lowest is.
 pub fn next_mask(m: usize, n: usize) -> usize
-    requires { ⌜ (0 < m) × (m < 2 ^ n) × (n ≤ 20) ⌝ }
+    requires { ⌜ (0 < m) × (m < 2 ^ n) × (n ≤ mostOdd) ⌝ }
     ensures { λ r. ⌜ Next n m r ⌝ }
 {
     let places = usize::count_ones(m) as usize;
@@ -121,7 +122,7 @@ pub fn next_mask(m: usize, n: usize) -> usize
 
 // The entries for all masks of n places that are asked for, from the distances between the places.
 pub fn fill(table: &mut [f64], partners: &mut [u8], n: usize)
-    requires { ⌜ (0 < n) × (n ≤ 20) ⌝ }
+    requires { ⌜ (0 < n) × (n ≤ mostOdd) ⌝ }
     requires { ⌜ (2 ^ n + n * n ≤ length (now table)) × (2 ^ n ≤ length (now partners)) ⌝ }
     ensures { λ _. ⌜ Filled n (2 ^ n) (now (table .entry)) (now (table .exit)) (now (partners .exit)) ⌝ }
 {

@@ -1,3 +1,4 @@
+-- `repair_distances::copy_row` meets its contract.
 use Prim.Native.Nat.{ℕ, _≤_, _<_, _-_}
 use native.Mathlib.Omega.{arith}
 use mathlib.Core.Path.{_≡_, subst}
@@ -7,9 +8,6 @@ use Rattle.repair_distances.proofs.Rows.{copied-none, copied-turn}
 use borrow.Author.Needs.{needs}
 use Rattle.repair_distances.proofs.copy_row.Statement.{statement}
 use Rattle.repair_distances.proofs.copy_row.Tie as tie
-use Rattle.repair_distances.proofs.copy_row.Reads as reads
-use Rattle.repair_distances.proofs.copy_row.Lts as lts
-use Rattle.widen.proofs.wide.Reads as wide-reads
 
 abbrev Inv-loop : tie.InvT-loop
 Inv-loop at odd count table₀ start j₀ table j = (j ≤ count) × (length table ≡ length table₀) × Copied at odd j start table₀ table
@@ -17,59 +15,45 @@ Inv-loop at odd count table₀ start j₀ table j = (j ≤ count) × (length tab
 abbrev μ-loop : tie.MeasureT-loop
 μ-loop at odd count table₀ start j₀ table j = count - j
 
--- src/lib.rt:30:5
 loop-holds : tie.Need-loop-holds Inv-loop μ-loop
 loop-holds c = (search needs, search needs, copied-none _ _ _ _)
 
--- src/lib.rt:31:22
 mul-wide : tie.Need-mul-wide Inv-loop μ-loop
 mul-wide c = search needs
 
--- src/lib.rt:31:22
 element-copy-out-wide : tie.Need-element-copy-out-wide Inv-loop μ-loop
 element-copy-out-wide c = search needs
 
--- src/lib.rt:31:13
 wide-requires : tie.Need-wide-requires Inv-loop μ-loop
 wide-requires c κs = search needs
 
--- src/lib.rt:32:28
 mul-table : tie.Need-mul-table Inv-loop μ-loop
-mul-table c = let small : c .wide .result < 1534 = omega (arith, c .before .before .before .before .before .pre .2 (c .before .before .before .loop .j) (c .before .before .loop-test .taken), c .wide .ensures) in search needs
+mul-table c = let small : c .wide .result < 1534 = omega (arith, c .before .before .before .before .before .pre .1 .below (c .before .before .before .loop .j) (c .before .before .loop-test .taken), c .wide .ensures) in search needs
 
--- src/lib.rt:32:28
 element-copy-out-table : tie.Need-element-copy-out-table Inv-loop μ-loop
-element-copy-out-table c = let small : c .wide .result < 1534 = omega (arith, c .before .before .before .before .before .pre .2 (c .before .before .before .loop .j) (c .before .before .loop-test .taken), c .wide .ensures) in search needs
+element-copy-out-table c = let small : c .wide .result < 1534 = omega (arith, c .before .before .before .before .before .pre .1 .below (c .before .before .before .loop .j) (c .before .before .loop-test .taken), c .wide .ensures) in search needs
 
--- src/lib.rt:32:15
 add-table : tie.Need-add-table Inv-loop μ-loop
 add-table c = search needs
 
--- src/lib.rt:32:9
 mul-table-2 : tie.Need-mul-table-2 Inv-loop μ-loop
 mul-table-2 c = search needs
 
--- src/lib.rt:32:9
 slice-write-table : tie.Need-slice-write-table Inv-loop μ-loop
 slice-write-table c = search needs
 
--- src/lib.rt:33:9
 add-j : tie.Need-add-j Inv-loop μ-loop
 add-j c = search needs
 
--- src/lib.rt:30:5
 loop-less : tie.Need-loop-less Inv-loop μ-loop
 loop-less c = search needs
 
--- src/lib.rt:30:5
 loop-again : tie.Need-loop-again Inv-loop μ-loop
 loop-again c = (search needs, search needs, copied-turn _ _ _ _ (c .before .wide .result) _ _ (c .before .wide .ensures) (omega (arith, c .before .before .before .before .loop .inv .1, c .before .before .before .loop-test .taken)) (c .before .before .before .before .loop .inv .2))
 
--- src/lib.rt:19:1
 same-length : tie.Need-same-length Inv-loop μ-loop
 same-length c = search needs
 
--- src/lib.rt:19:1
 returns : tie.Need-returns Inv-loop μ-loop
 returns c = let all : c .before .loop .j ≡ c .before .before .before .args .count = omega (arith, c .before .loop .inv .0, c .loop-test .left) in subst (λ (k : ℕ). Copied (c .before .before .before .args .at .now) (c .before .before .before .args .odd .now) k (c .before .before .before .args .start) (c .before .before .before .args .table .now) (c .before .loop .table)) all (c .before .loop .inv .2)
 

@@ -1,4 +1,4 @@
--- `greedy::distance_to` meets its contract. Assumes nothing.
+-- `repair_greedy::distance_to` meets its contract.
 use Rattle.repair_greedy.proofs.Points.{distance-is}
 use borrow.Author.Needs.{needs}
 use Rattle.repair_greedy.proofs.distance_to.Statement.{statement}
@@ -20,7 +20,7 @@ element-copy-out-qy : tie.Need-element-copy-out-qy
 element-copy-out-qy c = search needs
 
 squared-requires : tie.Need-squared-requires
-squared-requires c κs = let pre = c .before .before .before .pre in (pre .1, pre .2, pre .3 .wide _, pre .3 .high _)
+squared-requires c κs = let pre = c .before .before .before .pre in (pre .1, pre .2, pre .3 .xs-on _, pre .3 .ys-on _)
 
 returns : tie.Need-returns
 returns c =

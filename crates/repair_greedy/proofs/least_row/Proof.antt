@@ -1,4 +1,4 @@
--- `greedy::least_row` meets its contract. The invariant: the place is one of a row that is not the last. Assumes nothing.
+-- `repair_greedy::least_row` meets its contract. The invariant: the place is one of a row that is not the last.
 use Prim.Native.Nat.{_+_, _-_, _<_}
 use native.Mathlib.Omega.{arith}
 use mathlib.Core.Logic.{⊎-elim}

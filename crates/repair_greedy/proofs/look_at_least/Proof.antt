@@ -1,7 +1,7 @@
--- `greedy::look_at_least` meets its contract. Assumes nothing.
+-- `repair_greedy::look_at_least` meets its contract.
 use Prim.Native.Nat.{_+_, _<_}
 use native.Mathlib.Omega.{arith}
-use Rattle.repair_greedy.specs.Points.{pointAt}
+use Rattle.graph_arrays.specs.Arrays.{pointIn}
 use Rattle.repair_greedy.proofs.Rows.{row-reaches}
 use Rattle.repair_greedy.proofs.Bounds.{row-bounds, row-small}
 use borrow.Author.Needs.{needs}
@@ -29,14 +29,14 @@ element-write-lows c = search needs
 returns : tie.Need-returns
 returns c =
     let s = c .before .before .before .before .before in
-    let f = pointAt (s .args .xs .now) (s .args .ys .now) in
+    let f = pointIn (s .args .xs .now) (s .args .ys .now) in
     let w = s .args .working .now in
     let i = c .before .before .before .least-row .result in
-    let low : i + 1 < s .args .n = c .before .before .before .least-row .ensures in
+    let low : i + 1 < s .args .left = c .before .before .before .least-row .ensures in
     let is = c .before .scan-row .ensures in (
-      row-reaches f w (s .args .n) (s .pre .3 .long) i _ _ _ (omega arith) is,
-      row-small (s .args .xs .now) (s .args .ys .now) w (s .args .n) i _ _ _ (s .pre .3 .long) (s .pre .2) low is,
-      row-bounds f w (s .args .n) (s .pre .3 .long) (s .args .lows .now) i _ _ _ (s .pre .4) is,
+      row-reaches f w (s .args .left) (s .pre .2 .long) i _ _ _ (omega arith) is,
+      row-small 1534 (s .args .xs .now) (s .args .ys .now) w (s .args .left) i _ _ _ (s .pre .2 .long) (s .pre .1) low is,
+      row-bounds f w (s .args .left) (s .pre .2 .long) (s .args .lows .now) i _ _ _ (s .pre .3) is,
     )
 
 pub look-at-least-spec : {M : Type 1} → statement M

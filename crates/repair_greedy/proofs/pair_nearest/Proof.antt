@@ -1,5 +1,6 @@
--- `greedy::pair_nearest` meets its contract. Assumes nothing.
+-- `repair_greedy::pair_nearest` meets its contract.
 use native.Mathlib.Omega.{arith}
+use Rattle.graph_arrays.specs.Arrays.{pointIn}
 use Rattle.repair_greedy.proofs.Rounds.{round-done}
 use borrow.Author.Needs.{needs}
 use Rattle.repair_greedy.proofs.pair_nearest.Statement.{statement}
@@ -48,8 +49,8 @@ returns : tie.Need-returns
 returns c =
     let s = c .before .before .before .before .before .before .before .before .before .before .before in
     let near = c .before .before .before .before .before .before .before .before .find-closest in
-    round-done (s .args .xs .now) (s .args .ys .now) (s .args .working .now) _ _ _ _ _ (s .args .n) (near .result .from) (near .result .to) _ (s .args .count) (s .args .firsts .now) (s .args .seconds .now)
-    (s .pre .1) (s .pre .4) (near .ensures .3) (near .ensures .0) (c .before .before .before .remove-place .ensures .0) (c .before .before .before .remove-place .ensures .1) (c .remove-place2 .ensures .0) (c .remove-place2 .ensures .1)
+    round-done (pointIn (s .args .xs .now) (s .args .ys .now)) (s .args .working .now) _ _ _ _ _ (s .args .left) (near .result .from) (near .result .to) _ (s .args .count) (s .args .firsts .now) (s .args .seconds .now)
+    (s .pre .0) (s .pre .3 .long) (near .ensures .3) (near .ensures .0) (c .before .before .before .remove-place .ensures .0) (c .before .before .before .remove-place .ensures .1) (c .remove-place2 .ensures .0) (c .remove-place2 .ensures .1)
 
 pub pair-nearest-spec : {M : Type 1} → statement M
 pair-nearest-spec =

@@ -1,4 +1,4 @@
--- `greedy::scan_row` meets its contract. The invariant: the places that are left in the row, with what is in hand, give what the row gives. Assumes nothing.
+-- `repair_greedy::scan_row` meets its contract. The invariant: the places that are left in the row, with what is in hand, give what the row gives.
 use mathlib.Core.Path.{_≡_, sym, ap, _∙_}
 use mathlib.Core.List.{map}
 use Prim.Native.Nat.{_+_, _-_, _≤_}
@@ -7,8 +7,8 @@ use lib.ListN.{getD, take, drop}
 use borrow.Author.Needs.{needs}
 use Rattle.drawing_spec.specs.Drawing.{Point}
 use Rattle.repair_spec.specs.Pairing.{nothing, between, closestTo}
-use Rattle.repair_greedy.specs.Points.{at, pointAt}
-use Rattle.repair_greedy.proofs.Points.{point-at}
+use Rattle.graph_arrays.specs.Arrays.{pointIn}
+use Rattle.repair_greedy.specs.Rows.{at}
 use Rattle.repair_greedy.proofs.Rows.{row-turn, row-first, row-end}
 use Rattle.repair_greedy.proofs.scan_row.Statement.{statement}
 use Rattle.repair_greedy.proofs.scan_row.Tie as tie
@@ -16,7 +16,7 @@ use Rattle.repair_greedy.proofs.scan_row.Tie as tie
 abbrev Inv-loop : tie.InvT-loop
 Inv-loop xs ys working n i u px py j₀ first row₀ j row =
     (j ≤ n)
-    × (closestTo (at px py) i (drop j (map (pointAt xs ys) (take n working))) j (between (row .from) (row .to) (row .squared)) ≡ closestTo (at px py) i (drop (i + 1) (map (pointAt xs ys) (take n working))) (i + 1) nothing)
+    × (closestTo (at px py) i (drop j (map (pointIn xs ys) (take n working))) j (between (row .from) (row .to) (row .squared)) ≡ closestTo (at px py) i (drop (i + 1) (map (pointIn xs ys) (take n working))) (i + 1) nothing)
 
 abbrev μ-loop : tie.MeasureT-loop
 μ-loop xs ys working n i u px py j₀ first row₀ j row = n - j
@@ -31,16 +31,16 @@ wide-requires : tie.Need-wide-requires Inv-loop μ-loop
 wide-requires c κs = search needs
 
 mul-px : tie.Need-mul-px Inv-loop μ-loop
-mul-px c = omega (arith, c .before .before .pre .3 .nodes (c .before .before .args .i) (omega arith))
+mul-px c = omega (arith, c .before .before .pre .2 .below (c .before .before .args .i) (omega arith))
 
 element-copy-out-px : tie.Need-element-copy-out-px Inv-loop μ-loop
-element-copy-out-px c = omega (arith, c .before .before .pre .3 .nodes (c .before .before .args .i) (omega arith))
+element-copy-out-px c = omega (arith, c .before .before .pre .2 .below (c .before .before .args .i) (omega arith))
 
 mul-py : tie.Need-mul-py Inv-loop μ-loop
-mul-py c = omega (arith, c .before .before .before .pre .3 .nodes (c .before .before .before .args .i) (omega arith))
+mul-py c = omega (arith, c .before .before .before .pre .2 .below (c .before .before .before .args .i) (omega arith))
 
 element-copy-out-py : tie.Need-element-copy-out-py Inv-loop μ-loop
-element-copy-out-py c = omega (arith, c .before .before .before .pre .3 .nodes (c .before .before .before .args .i) (omega arith))
+element-copy-out-py c = omega (arith, c .before .before .before .pre .2 .below (c .before .before .before .args .i) (omega arith))
 
 add-j : tie.Need-add-j Inv-loop μ-loop
 add-j c = search needs
@@ -52,7 +52,7 @@ element-copy-out-distance-to : tie.Need-element-copy-out-distance-to Inv-loop μ
 element-copy-out-distance-to c = search needs
 
 distance-to-requires : tie.Need-distance-to-requires Inv-loop μ-loop
-distance-to-requires c κs = let pre = c .before .before .before .before .before .pre in (pre .3 .nodes _ (omega arith), pre .2 .wide _, pre .2 .high _, pre .2)
+distance-to-requires c κs = let pre = c .before .before .before .before .before .pre in (pre .2 .below _ (omega arith), pre .1 .xs-on _, pre .1 .ys-on _, pre .1)
 
 add-j-2 : tie.Need-add-j-2 Inv-loop μ-loop
 add-j-2 c = search needs
@@ -61,7 +61,7 @@ loop-holds : tie.Need-loop-holds Inv-loop μ-loop
 loop-holds c =
     let s = c .before .before .before .before .before .before in (
       omega arith,
-      row-first (pointAt (s .args .xs .now) (s .args .ys .now)) (s .args .working .now) (s .args .n) (s .pre .3 .long) _ (s .args .i) (s .args .i + 1) _ (omega arith) (c .distance-to .ensures),
+      row-first (pointIn (s .args .xs .now) (s .args .ys .now)) (s .args .working .now) (s .args .left) (s .pre .2 .long) _ (s .args .i) (s .args .i + 1) _ (omega arith) (c .distance-to .ensures),
     )
 
 mul-distance-to-2 : tie.Need-mul-distance-to-2 Inv-loop μ-loop
@@ -71,7 +71,7 @@ element-copy-out-distance-to-2 : tie.Need-element-copy-out-distance-to-2 Inv-loo
 element-copy-out-distance-to-2 c = search needs
 
 distance-to-requires-2 : tie.Need-distance-to-requires-2 Inv-loop μ-loop
-distance-to-requires-2 c κs = let pre = c .before .before .before .before .before .before .before .before .before .pre in (pre .3 .nodes _ (omega arith), pre .2 .wide _, pre .2 .high _, pre .2)
+distance-to-requires-2 c κs = let pre = c .before .before .before .before .before .before .before .before .before .pre in (pre .2 .below _ (omega arith), pre .1 .xs-on _, pre .1 .ys-on _, pre .1)
 
 nearer-requires : tie.Need-nearer-requires Inv-loop μ-loop
 nearer-requires c κs = search needs
@@ -86,22 +86,22 @@ loop-again : tie.Need-loop-again Inv-loop μ-loop
 loop-again c =
     let s = c .before .before .before .before .before .before .before .before .before .before .before in (
       omega arith,
-      row-turn (pointAt (s .args .xs .now) (s .args .ys .now)) (s .args .working .now) (s .args .n) (s .pre .3 .long) _ (s .args .i) (c .before .before .before .before .loop .j) _ _ _ _ (c .before .before .before .loop-test .taken)
+      row-turn (pointIn (s .args .xs .now) (s .args .ys .now)) (s .args .working .now) (s .args .left) (s .pre .2 .long) _ (s .args .i) (c .before .before .before .before .loop .j) _ _ _ _ (c .before .before .before .loop-test .taken)
           (c .before .distance-to2 .ensures) (c .nearer .ensures) (c .before .before .before .before .loop .inv .1),
     )
 
 returns : tie.Need-returns Inv-loop μ-loop
 returns c =
     let s = c .before .before .before .before .before .before .before .before in
-    let f = pointAt (s .args .xs .now) (s .args .ys .now) in
+    let f = pointIn (s .args .xs .now) (s .args .ys .now) in
     let w = s .args .working .now in
-    let n = s .args .n in
+    let n = s .args .left in
     let i = s .args .i in
     let u = c .before .before .before .before .before .before .wide .result in
     let here : f (getD w i 0) ≡ at (getD (s .args .xs .now) u 0) (getD (s .args .ys .now) u 0) =
-    ap f (sym (c .before .before .before .before .before .before .wide .ensures)) ∙ sym (point-at (s .args .xs .now) (s .args .ys .now) u) in
+    ap f (sym (c .before .before .before .before .before .before .wide .ensures)) in
     ap (λ (p : Point). closestTo p i (drop (i + 1) (map f (take n w))) (i + 1) nothing) here
-    ∙ sym (row-end f w n (s .pre .3 .long) _ i _ _ _ (c .loop-test .left) (c .before .loop .inv .1))
+    ∙ sym (row-end f w n (s .pre .2 .long) _ i _ _ _ (c .loop-test .left) (c .before .loop .inv .1))
 
 pub scan-row-spec : {M : Type 1} → statement M
 scan-row-spec =

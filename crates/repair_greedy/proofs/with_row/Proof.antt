@@ -1,6 +1,6 @@
--- `greedy::with_row` meets its contract: a row is passed over by its bound, or looked at. Assumes nothing.
+-- `repair_greedy::with_row` meets its contract: a row is passed over by its bound, or looked at.
 use native.Mathlib.Omega.{arith}
-use Rattle.repair_greedy.specs.Points.{pointAt}
+use Rattle.graph_arrays.specs.Arrays.{pointIn}
 use Rattle.repair_greedy.proofs.Rows.{row-taken}
 use Rattle.repair_greedy.proofs.Bounds.{row-passed, row-bounds}
 use borrow.Author.Needs.{needs}
@@ -16,7 +16,7 @@ element-copy-out-low c = search needs
 returns : tie.Need-returns
 returns c =
     let s = c .before .before .before in
-    (row-passed (pointAt (s .args .xs .now) (s .args .ys .now)) (s .args .working .now) (s .args .n) (s .pre .3 .long) (s .args .lows .now) (s .args .i) _ _ _ (omega arith) (s .pre .4) (c .if1 .taken), s .pre .4)
+    (row-passed (pointIn (s .args .xs .now) (s .args .ys .now)) (s .args .working .now) (s .args .left) (s .pre .2 .long) (s .args .lows .now) (s .args .i) _ _ _ (omega arith) (s .pre .3) (c .if1 .taken), s .pre .3)
 
 scan-row-requires : tie.Need-scan-row-requires
 scan-row-requires c κs = search needs
@@ -34,7 +34,7 @@ returns-2 : tie.Need-returns-2
 returns-2 c =
     let s = c .before .before .before .before .before in (
       row-taken _ _ _ _ _ _ _ _ _ (c .before .scan-row .ensures) (c .nearer .ensures),
-      row-bounds (pointAt (s .args .xs .now) (s .args .ys .now)) (s .args .working .now) (s .args .n) (s .pre .3 .long) (s .args .lows .now) (s .args .i) _ _ _ (s .pre .4) (c .before .scan-row .ensures),
+      row-bounds (pointIn (s .args .xs .now) (s .args .ys .now)) (s .args .working .now) (s .args .left) (s .pre .2 .long) (s .args .lows .now) (s .args .i) _ _ _ (s .pre .3) (c .before .scan-row .ensures),
     )
 
 pub with-row-spec : {M : Type 1} → statement M

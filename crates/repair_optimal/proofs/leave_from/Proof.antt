@@ -1,4 +1,4 @@
--- `optimal::leave_from` meets its contract. The loop's invariant: the places that are left, from the least so far, give the same as all. Assumes nothing.
+-- `repair_optimal::leave_from` meets its contract. The loop's invariant: the places that are left, from the least so far, give the same as all.
 use native.Mathlib.Omega.{arith}
 use Prim.Native.Nat.{_≤_, _-_, _^_}
 use mathlib.Core.Path.{_≡_, refl}

@@ -1,7 +1,9 @@
--- `optimal::optimal_pairs` meets its contract. Assumes nothing.
+-- `repair_optimal::optimal_pairs` meets its contract.
 use native.Mathlib.Omega.{arith}
-use mathlib.Core.Path.{_≡_}
-use Rattle.repair_optimal.proofs.Turns.{filled-partnered, filled-left, filled-optimal, stored-pairs}
+use mathlib.Core.Path.{ap, _∙_}
+use mathlib.Core.List.{map}
+use Rattle.repair_masks.specs.Places.{nodeAt, pairOf}
+use Rattle.repair_optimal.proofs.Turns.{filled-partnered, filled-left, filled-optimal}
 use borrow.Author.Needs.{needs}
 use Rattle.repair_optimal.proofs.optimal_pairs.Statement.{statement}
 use Rattle.repair_optimal.proofs.optimal_pairs.Tie as tie
@@ -20,7 +22,7 @@ read-pairs-requires c κs =
     let pre = c .before .before .before .before .before .before .before .before .before .before .before .before .before .before .pre .0 in
     let f = c .before .before .before .before .before .before .before .before .before .fill .ensures in
     let l = filled-left _ _ _ _ (pre .2) (pre .0) (pre .1) f in
-    ((pre .1, rw (c .before .before .before .left-out .ensures) (l .0), search needs, omega arith, rw (c .before .before .before .left-out .ensures) (l .1), rw (c .before .before .before .left-out .ensures) (l .2)), filled-partnered _ _ _ _ (pre .2) (pre .0) (pre .1) f)
+    ((pre .1, rw (c .before .before .before .left-out .ensures) (l .0), search needs, omega arith, rw (c .before .before .before .left-out .ensures) (l .1), rw (c .before .before .before .left-out .ensures) (l .2)), (filled-partnered _ _ _ _ (pre .2) (pre .0) (pre .1) f, pre .3))
 
 same-length : tie.Need-same-length
 same-length c = search needs
@@ -33,7 +35,7 @@ returns c =
     let pre = c .before .before .before .before .before .before .before .before .before .before .before .before .before .before .before .pre .0 in
     let f = c .before .before .before .before .before .before .before .before .before .before .fill .ensures in
     let o = filled-optimal _ _ _ _ (pre .2) (pre .0) (pre .1) f _ (c .before .before .before .before .left-out .ensures) in
-    stored-pairs _ (c .before .before .before .before .before .before .before .before .before .before .fill .last .1 .0) _ (c .before .before .before .before .left-out .result) _ _ _ _ _ o (c .read-pairs .ensures .0) (c .read-pairs .ensures .1)
+    c .read-pairs .ensures ∙ ap (map (pairOf (nodeAt (c .before .before .before .before .before .before .before .before .before .before .before .before .before .before .before .args .odd .now)))) o
 
 pub optimal-pairs-spec : {M : Type 1} → statement M
 optimal-pairs-spec =

@@ -1,4 +1,4 @@
--- `optimal::partner_of` meets its contract. Assumes nothing.
+-- `repair_optimal::partner_of` meets its contract.
 use borrow.Author.Needs.{needs}
 use Rattle.repair_optimal.proofs.partner_of.Statement.{statement}
 use Rattle.repair_optimal.proofs.partner_of.Tie as tie

@@ -1,71 +1,55 @@
--- `optimal::read_pairs` meets its contract. The loop's invariant: the pairs that are left, stored from t on, give the same arrays as all; the mask has two places for each, and is one that is asked for. Assumes nothing.
+-- `repair_optimal::read_pairs` meets its contract. The loop's invariant: the pairs that are read, and then those that are left, are all; the mask has two places for each that is left, and is one that is asked for.
 use native.Mathlib.Omega.{arith}
 use Prim.Native.Nat.{_≤_, _<_, _-_, _*_, _^_}
-use mathlib.Core.Path.{_≡_, refl}
-use Rattle.repair_optimal.proofs.Turns.{some-places, pair-out, stored-turn, stored-over, stored-first}
-use lib.Seq.{sets}
+use mathlib.Core.Path.{_≡_}
+use Rattle.repair_optimal.proofs.Turns.{some-places, pair-out, Reading, reading-start, reading-turn, reading-over}
 use lib.Count.{ones}
 use Rattle.repair_masks.specs.Table.{Needed}
-use Rattle.repair_masks.specs.Follow.{follow}
-use Rattle.repair_masks.specs.Places.{nodeAt}
-use Rattle.repair_spec.specs.Pairing.{Pair}
-use Rattle.repair_table.specs.Tables.{partnerIn}
-use Rattle.repair_optimal.specs.Stored.{startsOf, endsOf}
 use borrow.Author.Needs.{needs}
 use Rattle.repair_optimal.proofs.read_pairs.Statement.{statement}
 use Rattle.repair_optimal.proofs.read_pairs.Tie as tie
 
 abbrev Inv-loop : tie.InvT-loop
-Inv-loop partners odd n mask count starts₀ ends₀ m₀ t₀ starts ends m t =
-    (t ≤ count)
-    × (m < 2 ^ n)
-    × (ones m ≡ 2 * (count - t))
-    × Needed n m
-    × (sets starts t (startsOf odd (follow (count - t) (partnerIn partners) m)) ≡ sets starts₀ 0 (startsOf odd (follow count (partnerIn partners) mask)))
-    × (sets ends t (endsOf odd (follow (count - t) (partnerIn partners) m)) ≡ sets ends₀ 0 (endsOf odd (follow count (partnerIn partners) mask)))
+Inv-loop partners odd n mask count firsts₀ seconds₀ m₀ t₀ firsts seconds m t =
+    (t ≤ count) × (m < 2 ^ n) × (ones m ≡ 2 * (count - t)) × Needed n m × Reading odd partners count mask t m firsts seconds
 
 abbrev μ-loop : tie.MeasureT-loop
-μ-loop partners odd n mask count starts₀ ends₀ m₀ t₀ starts ends m t = count - t
+μ-loop partners odd n mask count firsts₀ seconds₀ m₀ t₀ firsts seconds m t = count - t
 
 loop-holds : tie.Need-loop-holds Inv-loop μ-loop
-loop-holds c = (
-  omega arith,
-  omega arith,
-  omega arith,
-  c .before .pre .0 .5,
-  stored-first (λ (p : Pair). nodeAt (c .before .args .odd .now) (p .from)) (c .before .args .partners .now) (c .before .args .count) (c .before .args .mask) (c .before .args .starts .now),
-  stored-first (λ (p : Pair). nodeAt (c .before .args .odd .now) (p .to)) (c .before .args .partners .now) (c .before .args .count) (c .before .args .mask) (c .before .args .ends .now),
-)
+loop-holds c =
+    let a = c .before .args in
+    (omega arith, omega arith, omega arith, c .before .pre .0 .5, reading-start (a .odd .now) (a .partners .now) (a .count) (a .mask) _ _ (c .before .pre .1 .1))
 
 lowest-requires : tie.Need-lowest-requires Inv-loop μ-loop
 lowest-requires c κs = let h = some-places (c .before .loop .m) (omega arith) in omega arith
 
 partner-of-requires : tie.Need-partner-of-requires Inv-loop μ-loop
-partner-of-requires c κs = let h = some-places (c .before .before .loop .m) (omega arith) in (omega arith, c .before .before .before .before .pre .1)
+partner-of-requires c κs = let h = some-places (c .before .before .loop .m) (omega arith) in (omega arith, c .before .before .before .before .pre .1 .0)
 
-mul-starts : tie.Need-mul-starts Inv-loop μ-loop
-mul-starts c = search needs
+mul-firsts : tie.Need-mul-firsts Inv-loop μ-loop
+mul-firsts c = search needs
 
-element-copy-out-starts : tie.Need-element-copy-out-starts Inv-loop μ-loop
-element-copy-out-starts c = search needs
+element-copy-out-firsts : tie.Need-element-copy-out-firsts Inv-loop μ-loop
+element-copy-out-firsts c = search needs
 
-mul-starts-2 : tie.Need-mul-starts-2 Inv-loop μ-loop
-mul-starts-2 c = search needs
+mul-firsts-2 : tie.Need-mul-firsts-2 Inv-loop μ-loop
+mul-firsts-2 c = search needs
 
-element-write-starts : tie.Need-element-write-starts Inv-loop μ-loop
-element-write-starts c = search needs
+element-write-firsts : tie.Need-element-write-firsts Inv-loop μ-loop
+element-write-firsts c = search needs
 
-mul-ends : tie.Need-mul-ends Inv-loop μ-loop
-mul-ends c = search needs
+mul-seconds : tie.Need-mul-seconds Inv-loop μ-loop
+mul-seconds c = search needs
 
-element-copy-out-ends : tie.Need-element-copy-out-ends Inv-loop μ-loop
-element-copy-out-ends c = search needs
+element-copy-out-seconds : tie.Need-element-copy-out-seconds Inv-loop μ-loop
+element-copy-out-seconds c = search needs
 
-mul-ends-2 : tie.Need-mul-ends-2 Inv-loop μ-loop
-mul-ends-2 c = search needs
+mul-seconds-2 : tie.Need-mul-seconds-2 Inv-loop μ-loop
+mul-seconds-2 c = search needs
 
-element-write-ends : tie.Need-element-write-ends Inv-loop μ-loop
-element-write-ends c = search needs
+element-write-seconds : tie.Need-element-write-seconds Inv-loop μ-loop
+element-write-seconds c = search needs
 
 power-requires : tie.Need-power-requires Inv-loop μ-loop
 power-requires c κs = search needs
@@ -90,21 +74,25 @@ loop-less c = search needs
 
 loop-again : tie.Need-loop-again Inv-loop μ-loop
 loop-again c =
-    let some = some-places (c .before .before .before .before .before .before .before .loop .m) (omega arith) in
-    let out = pair-out (c .before .before .before .before .before .before .before .before .before .args .n) (c .before .before .before .before .before .before .before .loop .m) _ _ _ _ (c .before .before .before .before .before .before .before .loop .inv .1) (c .before .before .before .before .before .before .before .before .before .pre .0 .0) some (c .before .before .before .before .before .lowest .ensures .place) (c .before .power .ensures .0) (c .power2 .ensures .0) (c .before .before .before .before .partner-of .ensures .2) (c .before .before .before .before .before .before .before .loop .inv .3) in (
+    let at = c .before .before .before .before .before .before .before .loop in
+    let s = c .before .before .before .before .before .before .before .before .before in
+    let low = c .before .before .before .before .before .lowest in
+    let with = c .before .before .before .before .partner-of in
+    let some = some-places (at .m) (omega arith) in
+    let out = pair-out (s .args .n) (at .m) _ _ _ _ (at .inv .1) (s .pre .0 .0) some (low .ensures .place) (c .before .power .ensures .0) (c .power2 .ensures .0) (with .ensures .2) (at .inv .3) in (
       omega arith,
       omega arith,
       omega arith,
       out .2,
-      stored-turn (λ (p : Pair). nodeAt (c .before .before .before .before .before .before .before .before .before .args .odd .now) (p .from)) (c .before .before .before .before .before .before .before .before .before .args .partners .now) (c .before .before .before .before .before .before .before .before .before .args .count) (c .before .before .before .before .before .before .before .loop .t) (c .before .before .before .before .before .before .before .loop .m) (c .before .before .before .before .before .lowest .result) (c .before .before .before .before .partner-of .result) _ _ (c .before .before .before .before .before .before .before .loop .starts) _ _ (omega arith) (c .before .before .before .before .before .lowest .ensures .place) (c .before .before .before .before .partner-of .ensures .0) (c .before .power .ensures .0) (c .power2 .ensures .0) refl (c .before .before .before .before .before .before .before .loop .inv .4),
-      stored-turn (λ (p : Pair). nodeAt (c .before .before .before .before .before .before .before .before .before .args .odd .now) (p .to)) (c .before .before .before .before .before .before .before .before .before .args .partners .now) (c .before .before .before .before .before .before .before .before .before .args .count) (c .before .before .before .before .before .before .before .loop .t) (c .before .before .before .before .before .before .before .loop .m) (c .before .before .before .before .before .lowest .result) (c .before .before .before .before .partner-of .result) _ _ (c .before .before .before .before .before .before .before .loop .ends) _ _ (omega arith) (c .before .before .before .before .before .lowest .ensures .place) (c .before .before .before .before .partner-of .ensures .0) (c .before .power .ensures .0) (c .power2 .ensures .0) refl (c .before .before .before .before .before .before .before .loop .inv .5),
+      reading-turn (s .args .odd .now) (s .args .partners .now) (s .args .count) (s .args .mask) (at .t) (at .m) (low .result) (with .result) _ _ (at .firsts) (at .seconds) (omega arith) (s .pre .0 .3) (low .ensures .place) (with .ensures .0)
+          (c .before .power .ensures .0) (c .power2 .ensures .0) (at .inv .4),
     )
 
 returns : tie.Need-returns Inv-loop μ-loop
-returns c = (
-  stored-over (λ (p : Pair). nodeAt (c .before .before .before .args .odd .now) (p .from)) (c .before .before .before .args .partners .now) (c .before .before .before .args .count) (c .before .loop .t) (c .before .loop .m) (c .before .loop .starts) _ (omega arith) (c .before .loop .inv .4),
-  stored-over (λ (p : Pair). nodeAt (c .before .before .before .args .odd .now) (p .to)) (c .before .before .before .args .partners .now) (c .before .before .before .args .count) (c .before .loop .t) (c .before .loop .m) (c .before .loop .ends) _ (omega arith) (c .before .loop .inv .5),
-)
+returns c =
+    let a = c .before .before .before .args in
+    let at = c .before .loop in
+    reading-over (a .odd .now) (a .partners .now) (a .count) (a .mask) (at .t) (at .m) _ _ (omega arith) (at .inv .4)
 
 pub read-pairs-spec : {M : Type 1} → statement M
 read-pairs-spec =
@@ -115,14 +103,14 @@ read-pairs-spec =
     loop-holds
     lowest-requires
     partner-of-requires
-    mul-starts
-    element-copy-out-starts
-    mul-starts-2
-    element-write-starts
-    mul-ends
-    element-copy-out-ends
-    mul-ends-2
-    element-write-ends
+    mul-firsts
+    element-copy-out-firsts
+    mul-firsts-2
+    element-write-firsts
+    mul-seconds
+    element-copy-out-seconds
+    mul-seconds-2
+    element-write-seconds
     power-requires
     sub-m
     power-requires-2

@@ -1,4 +1,4 @@
--- `pair_table::choose` meets its contract. Assumes nothing.
+-- `repair_table::choose` meets its contract.
 use native.Mathlib.Omega.{arith}
 use Rattle.repair_table.proofs.FillLaws.{others-left, chosen-entry}
 use mathlib.Core.Path.{_∙_}

@@ -1,4 +1,4 @@
--- `pair_table::is_due` meets its contract. Assumes nothing.
+-- `repair_table::is_due` meets its contract.
 use native.Mathlib.Omega.{arith}
 use mathlib.Core.Path.{_≡_, refl, sym, ap, _∙_}
 use lib.Count.{ones-le}

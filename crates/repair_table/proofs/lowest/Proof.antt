@@ -1,4 +1,4 @@
--- `pair_table::lowest` meets its contract. The place of the lowest bit is below n, and its power is in the mask (`lowest-is`). Assumes nothing.
+-- `repair_table::lowest` meets its contract. The place of the lowest bit is below n, and its power is in the mask (`lowest-is`).
 use Rattle.repair_table.proofs.Turns.{lowest-is}
 use native.Mathlib.Omega.{arith}
 use lib.Count.{trailing-le}

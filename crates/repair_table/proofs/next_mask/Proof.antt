@@ -1,4 +1,4 @@
--- `pair_table::next_mask` meets its contract. Assumes nothing.
+-- `repair_table::next_mask` meets its contract.
 use native.Mathlib.Omega.{arith}
 use lib.Count.{ones-le}
 use Rattle.repair_table.proofs.Turns.{power-small}

@@ -1,4 +1,4 @@
--- `pair_table::power` meets its contract. Assumes nothing.
+-- `repair_table::power` meets its contract.
 use Rattle.repair_table.proofs.Turns.{shifted-one}
 use borrow.Author.Needs.{needs}
 use Rattle.repair_table.proofs.power.Statement.{statement}

@@ -1,4 +1,4 @@
--- `pair_table::row_of` meets its contract. Assumes nothing.
+-- `repair_table::row_of` meets its contract.
 use Rattle.repair_table.proofs.Turns.{row-fits, square-small, power-small}
 use native.Mathlib.Omega.{arith}
 use borrow.Author.Needs.{needs}

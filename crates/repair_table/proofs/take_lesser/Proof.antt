@@ -1,4 +1,4 @@
--- `pair_table::take_lesser` meets its contract. Assumes nothing.
+-- `repair_table::take_lesser` meets its contract.
 use Rattle.repair_table.proofs.Turns.{lesser-taken, lesser-kept}
 use Rattle.repair_masks.specs.Table.{least}
 use Rattle.repair_table.proofs.take_lesser.Statement.{statement}

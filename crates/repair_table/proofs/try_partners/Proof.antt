@@ -1,4 +1,4 @@
--- `pair_table::try_partners` meets its contract. The loop's invariant: the tries that are left, from the least so far, give the same as all tries. The measure is the mask of the tries that are left. Assumes nothing.
+-- `repair_table::try_partners` meets its contract. The loop's invariant: the tries that are left, from the least so far, give the same as all tries. The measure is the mask of the tries that are left.
 use Rattle.repair_table.proofs.Turns.{tries-begin, tries-turn, tries-over, lesser-below}
 use native.Mathlib.Omega.{arith}
 use Prim.Native.Nat.{_≤_, _<_}

@@ -1,14 +1,14 @@
--- `optimal::clear_floats` meets its contract. The loop's invariant: k zeros, then what was there. Assumes nothing.
+-- `tables::clear_floats` meets its contract. The loop's invariant: k zeros, then what was there.
 use native.Mathlib.Omega.{arith}
 use Prim.Native.Nat.{_≤_, _-_}
 use mathlib.Core.Path.{_≡_, refl}
-use Rattle.repair_optimal.proofs.Turns.{clear-floats-turn, clear-over}
+use Rattle.tables.proofs.Clear.{clear-floats-turn, clear-over}
 use mathlib.Core.List.{_++_}
 use lib.ListN.{length, replicate, drop, length-set}
 use Rattle.repair_spec.specs.Distance.{zeroLength}
 use borrow.Author.Needs.{needs}
-use Rattle.repair_optimal.proofs.clear_floats.Statement.{statement}
-use Rattle.repair_optimal.proofs.clear_floats.Tie as tie
+use Rattle.tables.proofs.clear_floats.Statement.{statement}
+use Rattle.tables.proofs.clear_floats.Tie as tie
 
 abbrev Inv-loop : tie.InvT-loop
 Inv-loop table₀ k₀ table k =

@@ -1,26 +1,26 @@
--- `optimal::clear_bytes` meets its contract. The loop's invariant: k zeros, then what was there. Assumes nothing.
+-- `tables::clear_bytes` meets its contract. The loop's invariant: k zeros, then what was there.
 use native.Mathlib.Omega.{arith}
 use Prim.Native.Nat.{_≤_, _-_}
 use mathlib.Core.Path.{_≡_, refl}
-use Rattle.repair_optimal.proofs.Turns.{clear-turn, clear-over}
+use Rattle.tables.proofs.Clear.{clear-turn, clear-over}
 use mathlib.Core.List.{_++_}
 use lib.ListN.{length, replicate, drop, length-set}
 use borrow.Author.Needs.{needs}
-use Rattle.repair_optimal.proofs.clear_bytes.Statement.{statement}
-use Rattle.repair_optimal.proofs.clear_bytes.Tie as tie
+use Rattle.tables.proofs.clear_bytes.Statement.{statement}
+use Rattle.tables.proofs.clear_bytes.Tie as tie
 
 abbrev Inv-loop : tie.InvT-loop
-Inv-loop partners₀ k₀ partners k =
-    (k ≤ length partners₀) × (length partners ≡ length partners₀) × (partners ≡ replicate k 0 ++ drop k partners₀)
+Inv-loop table₀ k₀ table k =
+    (k ≤ length table₀) × (length table ≡ length table₀) × (table ≡ replicate k 0 ++ drop k table₀)
 
 abbrev μ-loop : tie.MeasureT-loop
-μ-loop partners₀ k₀ partners k = length partners₀ - k
+μ-loop table₀ k₀ table k = length table₀ - k
 
 loop-holds : tie.Need-loop-holds Inv-loop μ-loop
 loop-holds c = (omega arith, refl, refl)
 
-slice-write-partners : tie.Need-slice-write-partners Inv-loop μ-loop
-slice-write-partners c = search needs
+slice-write-table : tie.Need-slice-write-table Inv-loop μ-loop
+slice-write-table c = search needs
 
 add-k : tie.Need-add-k Inv-loop μ-loop
 add-k c = search needs
@@ -35,7 +35,7 @@ same-length : tie.Need-same-length Inv-loop μ-loop
 same-length c = search needs
 
 returns : tie.Need-returns Inv-loop μ-loop
-returns c = clear-over 0 (c .before .loop .k) (c .before .before .args .partners .now) _ (omega arith) (c .before .loop .inv .2)
+returns c = clear-over 0 (c .before .loop .k) (c .before .before .args .table .now) _ (omega arith) (c .before .loop .inv .2)
 
 pub clear-bytes-spec : {M : Type 1} → statement M
 clear-bytes-spec =
@@ -44,7 +44,7 @@ clear-bytes-spec =
     Inv-loop
     μ-loop
     loop-holds
-    slice-write-partners
+    slice-write-table
     add-k
     loop-less
     loop-again
