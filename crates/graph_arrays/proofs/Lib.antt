@@ -2,3 +2,4 @@
 pub mod Filled
 pub mod Tabulate
 pub mod Arrays
+pub mod NodeList
