@@ -14,10 +14,10 @@ use Rattle.graph_spec.proofs.EdgesAt.{edgeAt, edgeAt-in}
 use Rattle.graph_adjacency.specs.Lists.{Adjacency, adjacency, noEdges, push, lists, firstArc}
 use Rattle.graph_adjacency.specs.Follow.{Ends, Follows}
 use Rattle.graph_adjacency.proofs.Follow.{lists-follow, lists-push}
-use Rattle.graph_edge_arrays.proofs.Held.{inside-ends}
 use Rattle.drawing_spec.specs.Members.{In}
 use Rattle.drawing_spec.proofs.Members.{in-append}
 use Rattle.graph_arrays.specs.Arrays.{edgeIn, edgesIn, EdgesLinked}
+use Rattle.graph_arrays.proofs.Ends.{inside-ends}
 use Rattle.graph_arrays.proofs.Tabulate.{tabulate-length, tabulate-at}
 use Rattle.graph_arrays.proofs.Filled as filled
 

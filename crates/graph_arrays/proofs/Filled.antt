@@ -13,9 +13,8 @@ use Rattle.graph_spec.specs.Ways.{Inside}
 use Rattle.graph_spec.proofs.EdgesAt.{edgeAt}
 use Rattle.graph_adjacency.specs.Lists.{Adjacency, adjacency, noEdges, push, pushed, lists}
 use Rattle.graph_adjacency.proofs.Follow.{Sized, push-sized, lists-sized}
-use Rattle.graph_edge_arrays.specs.Held.{EndsHeld}
-use Rattle.graph_edge_arrays.proofs.Held.{first-end, second-end}
 use Rattle.graph_spec.specs.Weights.{Weights}
+use Rattle.graph_arrays.proofs.Ends.{At, lists-at}
 use Rattle.graph_arrays.proofs.Tabulate.{tabulate-is}
 use Rattle.graph_arrays.specs.Read.{edgeIn, edgesIn, EdgesSound}
 
@@ -49,13 +48,13 @@ weight-at es b j h = ap (λ (q : ℕ). getD (pushed 0 es noEdges .weights) q nan
 
 module _ (n : ℕ) (es : List Edge) (ends : List ℕ) (weights : List Float) (next heads : List ℕ) (room : n ≤ mostNodes) (few : length es ≤ edgeRoom) (inside : Inside n es)
     (is : adjacency ends weights next heads ≡ lists es) where
-  ends-held : EndsHeld n es ends
-  ends-held = record { few = few; room = room; inside = inside; ends-are = ap (λ (g : Adjacency). g .ends) (sym is) }
+  ends-at : (j : ℕ) → j < length es → At j (edgeAt es j) ends
+  ends-at j h = subst (λ (g : Adjacency). At j (edgeAt es j) (g .ends)) (sym is) (lists-at es few j h)
 
   edge-at : (j : ℕ) → j < length es → edgeIn ends weights j ≡ edgeAt es j
   edge-at j h =
-      ap (λ (u : ℕ). edge u (getD ends (j + edgeRoom) 0) (getD weights j nan)) (first-end n es ends ends-held j h)
-      ∙ ap (λ (v : ℕ). edge (edgeAt es j .a) v (getD weights j nan)) (second-end n es ends ends-held j h)
+      ap (λ (u : ℕ). edge u (getD ends (j + edgeRoom) 0) (getD weights j nan)) (ends-at j h .0)
+      ∙ ap (λ (v : ℕ). edge (edgeAt es j .a) v (getD weights j nan)) (ends-at j h .1)
       ∙ ap (λ (w : Float). edge (edgeAt es j .a) (edgeAt es j .b) w) (ap (λ (g : Adjacency). getD (g .weights) j nan) is ∙ weight-at es few j h)
 
   pub edges-are : edgesIn (length es) ends weights ≡ es

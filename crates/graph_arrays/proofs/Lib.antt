@@ -1,4 +1,5 @@
 -- Laws of the definitions in specs/.
+pub mod Ends
 pub mod Filled
 pub mod Tabulate
 pub mod Arrays

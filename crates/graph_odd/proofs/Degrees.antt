@@ -1,4 +1,4 @@
--- Laws of specs/Degrees.
+-- Laws of specs/Degrees, and the invariant of the pass over the edges.
 use mathlib.Core.Path.{_≡_, sym, ap, _∙_}
 use mathlib.Core.Logic.{inl, inr}
 use mathlib.Core.List.{List}
@@ -15,9 +15,10 @@ use Rattle.graph_spec.specs.Graph.{Edge, edge}
 use Rattle.graph_spec.specs.Degree.{hit, degree}
 use Rattle.graph_spec.proofs.Sums.{hit-same, hit-other, hit-le}
 use Rattle.graph_spec.proofs.EdgesAt.{edgeAt}
-use Rattle.graph_edge_arrays.specs.Held.{EndsHeld}
-use Rattle.graph_edge_arrays.proofs.Held.{first-end, second-end, ends-below}
-use Rattle.graph_odd.specs.Degrees.{Countable, Degrees, EndsBelow, bump, bumped}
+use Rattle.graph_adjacency.specs.Lists.{Adjacency}
+use Rattle.graph_arrays.specs.Arrays.{edgesIn, EdgesLinked}
+use Rattle.graph_arrays.proofs.Arrays.{edges-count, edge-at, ends-in}
+use Rattle.graph_odd.specs.Degrees.{Countable, Degrees, bump, bumped}
 
 pub bump-at : (ds : List ℕ) (u v : ℕ) → u < length ds → getD (bump ds u) v 0 ≡ getD ds v 0 + hit u v
 bump-at ds u v h = elim (ℕ-discrete u v) [
@@ -37,61 +38,60 @@ bumped-at ds u v w hu hv =
     let long : v < length (bump ds u) = simp length-set hv in
     omega (arith, bump-at (bump ds u) v w long, bump-at ds u w hu)
 
--- after i edges
-pub record Counted (m i : ℕ) (ends ds : List ℕ) : Type 0 where
-  pub on : i ≤ m
+-- after i of the edges: what is counted and what those that are left will add make the degrees
+pub record Counted (es : List Edge) (i : ℕ) (ds : List ℕ) : Type 0 where
+  pub on : i ≤ length es
   pub long : length ds ≡ mostNodes
   pub small : (v : ℕ) → getD ds v 0 ≤ 2 * i
-  pub rest : (n : ℕ) (es : List Edge) → EndsHeld n es ends → length es ≡ m → (v : ℕ) → getD ds v 0 + degree (drop i es) v ≡ degree es v
+  pub rest : (v : ℕ) → getD ds v 0 + degree (drop i es) v ≡ degree es v
 
-pub counted-start : (m : ℕ) (ends ds : List ℕ) → ds ≡ replicate mostNodes 0 → Counted m 0 ends ds
-counted-start m ends ds e =
+pub counted-start : (es : List Edge) (ds : List ℕ) → ds ≡ replicate mostNodes 0 → Counted es 0 ds
+counted-start es ds e =
     let none : (v : ℕ) → getD ds v 0 ≡ 0 = λ v. ap (λ (q : List ℕ). getD q v 0) e ∙ getD-same mostNodes v 0 in
     record {
       on = omega arith;
       long = ap (λ (q : List ℕ). length q) e ∙ length-replicate {A = ℕ} mostNodes 0;
       small = λ v. omega (arith, none v);
-      rest = λ n es H l v. omega (arith, none v);
+      rest = λ v. omega (arith, none v);
     }
 
 first-edge : (es : List Edge) (i v : ℕ) → i < length es → degree (drop i es) v ≡ hit (edgeAt es i .a) v + hit (edgeAt es i .b) v + degree (drop (i + 1) es) v
 unfolding degree
 first-edge es i v h = rw (add-one, drop-cons es i (edge 0 0 nan))
 
-pub counted-fits : (m i : ℕ) (ends ds : List ℕ) → m ≤ edgeRoom → EndsBelow m ends → i < m → Counted m i ends ds → Countable i ends ds
-counted-fits m i ends ds few below h c = record {
-  room = omega arith;
-  first = below i h .0;
-  second = below i h .1;
-  small = λ v. omega (arith, c .small v);
-}
-
-pub counted-next : (m i : ℕ) (ends ds ds' : List ℕ) → EndsBelow m ends → i < m → ds' ≡ bumped ds (getD ends i 0) (getD ends (i + edgeRoom) 0)
-    → Counted m i ends ds → Counted m (i + 1) ends ds'
-counted-next m i ends ds ds' below h e c =
-    let u = getD ends i 0 in
-    let v = getD ends (i + edgeRoom) 0 in
-    let b = below i h in
-    let lu : u < length ds = omega (arith, b .0, c .long) in
-    let lv : v < length ds = omega (arith, b .1, c .long) in
-    rw e (record {
-      on = omega arith;
-      long = bumped-long ds u v ∙ c .long;
-      small = λ w. omega (arith, bumped-at ds u v w lu lv, c .small w, hit-le u w, hit-le v w);
-      rest = λ n es H l w.
-          let here : i < length es = omega arith in
-          let ha : hit u w ≡ hit (edgeAt es i .a) w = ap (λ (q : ℕ). hit q w) (first-end n es ends H i here) in
-          let hb : hit v w ≡ hit (edgeAt es i .b) w = ap (λ (q : ℕ). hit q w) (second-end n es ends H i here) in
-          omega (arith, bumped-at ds u v w lu lv, c .rest n es H l w, first-edge es i w here);
-    })
-
 none-left : (es : List Edge) (i v : ℕ) → length es ≤ i → degree (drop i es) v ≡ 0
 unfolding degree
 none-left es i v h = rw (drop-of-length-le es h)
 
-pub counted-all : (m i : ℕ) (ends ds : List ℕ) → m ≤ i → Counted m i ends ds → Degrees m ends ds
-counted-all m i ends ds h c n es H l v = omega (arith, c .rest n es H l v, none-left es i v (omega arith))
+module _ (n m i : ℕ) (a : Adjacency) (ds : List ℕ) (L : EdgesLinked n m a) (C : Counted (edgesIn m a) i ds) where
+  pub counted-fits : i < m → Countable i (a .ends) ds
+  counted-fits h =
+      let b = ends-in n m a L i h in
+      record {
+        room = omega (arith, L .few-edges);
+        first = omega (arith, b .0, L .few-nodes);
+        second = omega (arith, b .1, L .few-nodes);
+        small = λ v. omega (arith, C .small v, L .few-edges);
+      }
 
--- whoever has a graph's edges in the array can call
-pub held-below : (n : ℕ) (es : List Edge) (ends : List ℕ) (m : ℕ) → EndsHeld n es ends → length es ≡ m → EndsBelow m ends
-held-below n es ends m H l j h = ends-below n es ends H j (omega arith)
+  pub counted-next : (ds' : List ℕ) → i < m → ds' ≡ bumped ds (getD (a .ends) i 0) (getD (a .ends) (i + edgeRoom) 0) → Counted (edgesIn m a) (i + 1) ds'
+  counted-next ds' h e =
+      let es = edgesIn m a in
+      let u = getD (a .ends) i 0 in
+      let v = getD (a .ends) (i + edgeRoom) 0 in
+      let f = counted-fits h in
+      let here : i < length es = omega (arith, edges-count m a) in
+      let lu : u < length ds = omega (arith, f .first, C .long) in
+      let lv : v < length ds = omega (arith, f .second, C .long) in
+      rw e (record {
+        on = omega arith;
+        long = bumped-long ds u v ∙ C .long;
+        small = λ w. omega (arith, bumped-at ds u v w lu lv, C .small w, hit-le u w, hit-le v w);
+        rest = λ w.
+            let ha : hit u w ≡ hit (edgeAt es i .a) w = ap (λ (q : Edge). hit (q .a) w) (sym (edge-at m a i h)) in
+            let hb : hit v w ≡ hit (edgeAt es i .b) w = ap (λ (q : Edge). hit (q .b) w) (sym (edge-at m a i h)) in
+            omega (arith, bumped-at ds u v w lu lv, C .rest w, first-edge es i w here);
+      })
+
+  pub counted-all : m ≤ i → Degrees (edgesIn m a) ds
+  counted-all h v = let long = edges-count m a in omega (arith, C .rest v, none-left (edgesIn m a) i v (omega arith))

@@ -1,24 +1,29 @@
 -- The odd nodes, listed in ascending order. Assumes nothing.
-use mathlib.Core.Path.{_≡_, sym, ap, _∙_}
+use mathlib.Core.Path.{_≡_, sym, ap, ap₂, _∙_}
 use mathlib.Core.Bool.{Bool, true, false}
-use mathlib.Core.List.{List, [], _∷_}
+use mathlib.Core.List.{List, [], _∷_, _++_}
 use Prim.Native.Nat.{ℕ, zero, suc, _+_, _-_, _%_, _≤_, _<_}
 use native.Mathlib.Nat.{zero-add}
 use native.Mathlib.Numerals.{add-one}
 use native.Mathlib.Omega.{arith}
-use lib.ListN.{length, set, take, drop}
+use lib.ListN.{length, set, take, drop, replicate, length-replicate}
 use lib.Seq.{sets, sets-eq, take-append-seam}
 use borrow.Author.Tests.{eq-eqb, ne-eqb}
+use Rattle.limits.specs.Limits.{mostNodes}
 use Rattle.graph_spec.specs.Graph.{Edge}
 use Rattle.graph_spec.specs.Degree.{degree, isOdd, oddFrom, oddNodes}
+use Rattle.graph_arrays.specs.Arrays.{Front}
+
+abbrev pub cleared : List ℕ
+cleared = replicate mostNodes 0
 
 -- What is left, from the node v on, listed behind what is listed, gives the list of all.
-pub record Listing (es : List Edge) (n v : ℕ) (odd₀ odd : List ℕ) (count : ℕ) : Type 0 where
-  pub is : sets odd count (oddFrom es (n - v) v) ≡ sets odd₀ 0 (oddNodes n es)
+pub record Listing (es : List Edge) (n v : ℕ) (odd : List ℕ) (count : ℕ) : Type 0 where
+  pub is : sets odd count (oddFrom es (n - v) v) ≡ sets cleared 0 (oddNodes n es)
   pub counted : count + length (oddFrom es (n - v) v) ≡ length (oddNodes n es)
 
-pub listing-start : (es : List Edge) (n : ℕ) (odd : List ℕ) → Listing es n 0 odd odd 0
-listing-start es n odd =
+pub listing-start : (es : List Edge) (n : ℕ) → Listing es n 0 cleared 0
+listing-start es n =
     let all : n - 0 ≡ n = omega arith in
     record { is = rw all; counted = rw all (zero-add _) }
 
@@ -41,18 +46,18 @@ module _ (es : List Edge) where
     left-even : (degree es v % 2 ≡ 1 → ⊥) → oddFrom es (n - v) v ≡ oddFrom es (n - (v + 1)) (v + 1)
     left-even o = ap (λ (k : ℕ). oddFrom es k v) one-less ∙ from-even (n - (v + 1)) v o ∙ ap (λ (u : ℕ). oddFrom es (n - (v + 1)) u) (sym (add-one v))
 
-    pub listing-odd : (odd₀ odd odd' : List ℕ) (count count' : ℕ) → odd' ≡ set odd count v → count' ≡ count + 1 → degree es v % 2 ≡ 1
-        → Listing es n v odd₀ odd count → Listing es n (v + 1) odd₀ odd' count'
-    listing-odd odd₀ odd odd' count count' eo ec o l =
+    pub listing-odd : (odd odd' : List ℕ) (count count' : ℕ) → odd' ≡ set odd count v → count' ≡ count + 1 → degree es v % 2 ≡ 1
+        → Listing es n v odd count → Listing es n (v + 1) odd' count'
+    listing-odd odd odd' count count' eo ec o l =
         let rest = oddFrom es (n - (v + 1)) (v + 1) in
         rw (eo, ec) (record {
           is = ap (λ (i : ℕ). sets (set odd count v) i rest) (add-one count) ∙ sym (ap (λ (vs : List ℕ). sets odd count vs) (left-odd o)) ∙ l .is;
           counted = omega (arith, l .counted, ap (λ (vs : List ℕ). length vs) (left-odd o));
         })
 
-    pub listing-even : (odd₀ odd odd' : List ℕ) (count count' : ℕ) → odd' ≡ odd → count' ≡ count → (degree es v % 2 ≡ 1 → ⊥)
-        → Listing es n v odd₀ odd count → Listing es n (v + 1) odd₀ odd' count'
-    listing-even odd₀ odd odd' count count' eo ec o l =
+    pub listing-even : (odd odd' : List ℕ) (count count' : ℕ) → odd' ≡ odd → count' ≡ count → (degree es v % 2 ≡ 1 → ⊥)
+        → Listing es n v odd count → Listing es n (v + 1) odd' count'
+    listing-even odd odd' count count' eo ec o l =
         rw (eo, ec) (record {
           is = sym (ap (λ (vs : List ℕ). sets odd count vs) (left-even o)) ∙ l .is;
           counted = omega (arith, l .counted, ap (λ (vs : List ℕ). length vs) (left-even o));
@@ -62,33 +67,25 @@ module _ (es : List Edge) where
   unfolding oddFrom
   none-left k v h = ap (λ (i : ℕ). oddFrom es i v) h
 
-  -- the nodes es have been listed in odd, of which count are
-  pub listing-end : (n v : ℕ) (odd₀ odd : List ℕ) (count : ℕ) → n ≤ v → Listing es n v odd₀ odd count
-      → (odd ≡ sets odd₀ 0 (oddNodes n es)) × (count ≡ length (oddNodes n es))
-  listing-end n v odd₀ odd count h l =
+  odd-from-few : (k v : ℕ) → length (oddFrom es k v) ≤ k
+  unfolding oddFrom
+  odd-from-few zero v = omega arith
+  odd-from-few (suc k) v = go (isOdd (degree es v)) (odd-from-few k (suc v))
+    where
+      go : (t : Bool) → length (oddFrom es k (suc v)) ≤ k → length {A = ℕ} (elim t [ true ↦ v ∷ oddFrom es k (suc v) | false ↦ oddFrom es k (suc v) ]) ≤ suc k
+      go true h = omega arith
+      go false h = omega arith
+
+  -- no node is listed twice
+  pub odd-few : (n : ℕ) → length (oddNodes n es) ≤ n
+  odd-few n = odd-from-few n 0
+
+  pub listing-end : (n v : ℕ) (odd : List ℕ) (count : ℕ) → n ≤ mostNodes → n ≤ v → Listing es n v odd count → Front (oddNodes n es) odd count
+  listing-end n v odd count few h l =
       let none : n - v ≡ 0 = omega arith in
-      let e = none-left (n - v) v none in (
-        sym (ap (λ (vs : List ℕ). sets odd count vs) e) ∙ l .is,
-        omega (arith, l .counted, ap (λ (vs : List ℕ). length vs) e),
-      )
-
--- what is read of the list
-pub listed-take : (odd vs : List ℕ) → length vs ≤ length odd → take (length vs) (sets odd 0 vs) ≡ vs
-listed-take odd vs h = ap (take (length vs)) (sets-eq vs odd 0 (omega arith)) ∙ take-append-seam vs (drop (0 + length vs) odd)
-
--- how many there can be
-odd-from-few : (es : List Edge) (k v : ℕ) → length (oddFrom es k v) ≤ k
-unfolding oddFrom
-odd-from-few es zero v = omega arith
-odd-from-few es (suc k) v = go (isOdd (degree es v)) (odd-from-few es k (suc v))
-  where
-    go : (t : Bool) → length (oddFrom es k (suc v)) ≤ k → length {A = ℕ} (elim t [ true ↦ v ∷ oddFrom es k (suc v) | false ↦ oddFrom es k (suc v) ]) ≤ suc k
-    go true h = omega arith
-    go false h = omega arith
-
-pub odd-few : (n : ℕ) (es : List Edge) → length (oddNodes n es) ≤ n
-odd-few n es = odd-from-few es n 0
-
--- the code's list, as whoever lent an array of 1,534 reads it
-pub listed-odd : (n : ℕ) (es : List Edge) (odd : List ℕ) → n ≤ length odd → take (length (oddNodes n es)) (sets odd 0 (oddNodes n es)) ≡ oddNodes n es
-listed-odd n es odd h = listed-take odd (oddNodes n es) (omega (arith, odd-few n es))
+      let e = none-left (n - v) v none in
+      let vs = oddNodes n es in
+      let long : length cleared ≡ mostNodes = length-replicate {A = ℕ} mostNodes 0 in
+      let all : odd ≡ vs ++ drop (0 + length vs) cleared = sym (ap (λ (us : List ℕ). sets odd count us) e) ∙ l .is ∙ sets-eq vs cleared 0 (omega (arith, odd-few n)) in
+      let counts : count ≡ length vs = omega (arith, l .counted, ap (λ (us : List ℕ). length us) e) in
+      record { counts = counts; are = ap₂ take counts all ∙ take-append-seam vs (drop (0 + length vs) cleared) }

@@ -2,15 +2,10 @@
 use mathlib.Core.Path.{_≡_}
 use mathlib.Core.List.{List}
 use Prim.Native.Nat.{ℕ, _+_, _*_, _≤_, _<_}
-use lib.ListN.{length, getD, set}
+use lib.ListN.{getD, set}
 use Rattle.limits.specs.Limits.{mostNodes, edgeRoom}
 use Rattle.graph_spec.specs.Graph.{Edge}
 use Rattle.graph_spec.specs.Degree.{degree}
-use Rattle.graph_edge_arrays.specs.Held.{EndsHeld}
-
--- the ends of the first m edges are nodes
-abbrev pub EndsBelow : ℕ → List ℕ → Type 0
-EndsBelow m ends = (j : ℕ) → j < m → (getD ends j 0 < mostNodes) × (getD ends (j + edgeRoom) 0 < mostNodes)
 
 -- the edge i has nodes as its ends, and no degree is near the largest number
 pub record Countable (i : ℕ) (ends ds : List ℕ) : Type 0 where
@@ -27,6 +22,6 @@ bump ds v = set ds v (getD ds v 0 + 1)
 abbrev pub bumped : List ℕ → ℕ → ℕ → List ℕ
 bumped ds u v = bump (bump ds u) v
 
--- the degrees of all edges
-abbrev pub Degrees : ℕ → List ℕ → List ℕ → Type 0
-Degrees m ends ds = (n : ℕ) (es : List Edge) → EndsHeld n es ends → length es ≡ m → (v : ℕ) → getD ds v 0 ≡ degree es v
+-- ds has the degree of each node
+abbrev pub Degrees : List Edge → List ℕ → Type 0
+Degrees es ds = (v : ℕ) → getD ds v 0 ≡ degree es v

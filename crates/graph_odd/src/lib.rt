@@ -1,19 +1,18 @@
 // The odd nodes of a graph: degrees counted in one pass over the edges, then the odd ones listed.
 ghost use mathlib.Core.Path.{_≡_};
-ghost use mathlib.Core.List.{List};
-ghost use Prim.Native.Nat.{_+_, _≤_};
-ghost use lib.ListN.{length, getD, replicate};
-ghost use lib.Seq.{sets};
+ghost use Prim.Native.Nat.{_+_};
+ghost use lib.ListN.{getD, replicate};
 ghost use Rattle.limits.specs.Limits.{mostNodes, edgeRoom};
-ghost use Rattle.graph_spec.specs.Graph.{Edge};
 ghost use Rattle.graph_spec.specs.Degree.{oddNodes};
-ghost use Rattle.graph_edge_arrays.specs.Held.{EndsHeld};
-ghost use Rattle.graph_odd.specs.Degrees.{EndsBelow, Countable, bumped, Degrees};
+ghost use Rattle.graph_adjacency.specs.Lists.{adjacency};
+ghost use Rattle.graph_arrays.specs.Arrays.{edgesIn, EdgesLinked, Front};
+ghost use Rattle.graph_odd.specs.Degrees.{Countable, bumped, Degrees};
+use limits::ARC_ROOM;
 use limits::EDGE_ROOM;
 use limits::MOST_NODES;
 
 // One more at both ends of the edge i.
-fn count_edge(ends: &[u16; 2 * EDGE_ROOM], degrees: &mut [u16; MOST_NODES], i: usize)
+fn count_edge(ends: &[u16; ARC_ROOM], degrees: &mut [u16; MOST_NODES], i: usize)
     requires { ⌜ Countable i (now ends) (now degrees) ⌝ }
     ensures { λ _. ⌜ now (degrees .exit) ≡ bumped (now (degrees .entry)) (getD (now (ends .entry)) i 0) (getD (now (ends .entry)) (i + edgeRoom) 0) ⌝ }
 {
@@ -24,11 +23,18 @@ fn count_edge(ends: &[u16; 2 * EDGE_ROOM], degrees: &mut [u16; MOST_NODES], i: u
 }
 
 // The degree of each node, by the first m edges.
-fn count_degrees(ends: &[u16; 2 * EDGE_ROOM], degrees: &mut [u16; MOST_NODES], m: usize)
-    requires room { ⌜ m ≤ edgeRoom ⌝ }
-    requires nodes { ⌜ EndsBelow m (now ends) ⌝ }
+fn count_degrees(
+    ends: &[u16; ARC_ROOM],
+    weights: &[f64; EDGE_ROOM],
+    next: &[u16; ARC_ROOM],
+    heads: &[u16; 2 * MOST_NODES],
+    n: usize,
+    m: usize,
+    degrees: &mut [u16; MOST_NODES],
+)
+    requires edges { ⌜ EdgesLinked n m (adjacency (now ends) (now weights) (now next) (now heads)) ⌝ }
     requires none { ⌜ now degrees ≡ replicate mostNodes 0 ⌝ }
-    ensures { λ _. ⌜ Degrees m (now (ends .entry)) (now (degrees .exit)) ⌝ }
+    ensures { λ _. ⌜ Degrees (edgesIn m (adjacency (now (ends .entry)) (now (weights .entry)) (now (next .entry)) (now (heads .entry)))) (now (degrees .exit)) ⌝ }
 {
     let mut i: usize = 0;
     while i < m {
@@ -37,19 +43,23 @@ fn count_degrees(ends: &[u16; 2 * EDGE_ROOM], degrees: &mut [u16; MOST_NODES], m
     }
 }
 
-// Lists the odd ones of n nodes, ascending; the answer is how many there are. m is the number of edges.
+// Lists the odd ones of n nodes, ascending; the answer is how many there are. The array is cleared first: behind a
+// reference its length is not known until it is written whole.
 pub fn odd_nodes(
-    ends: &[u16; 2 * EDGE_ROOM],
-    odd: &mut [u16; MOST_NODES],
+    ends: &[u16; ARC_ROOM],
+    weights: &[f64; EDGE_ROOM],
+    next: &[u16; ARC_ROOM],
+    heads: &[u16; 2 * MOST_NODES],
     n: usize,
     m: usize,
+    odd: &mut [u16; MOST_NODES],
 ) -> usize
-    requires room { ⌜ (n ≤ mostNodes) × (m ≤ edgeRoom) ⌝ }
-    requires nodes { ⌜ EndsBelow m (now ends) ⌝ }
-    ensures { λ r. ⌜ ((es : List Edge) → EndsHeld n es (now (ends .entry)) → length es ≡ m → (now (odd .exit) ≡ sets (now (odd .entry)) 0 (oddNodes n es)) × (r ≡ length (oddNodes n es))) ⌝ }
+    requires { ⌜ EdgesLinked n m (adjacency (now ends) (now weights) (now next) (now heads)) ⌝ }
+    ensures { λ r. ⌜ Front (oddNodes n (edgesIn m (adjacency (now (ends .entry)) (now (weights .entry)) (now (next .entry)) (now (heads .entry))))) (now (odd .exit)) r ⌝ }
 {
+    *odd = [0; MOST_NODES];
     let mut degrees = [0u16; MOST_NODES];
-    count_degrees(ends, &mut degrees, m);
+    count_degrees(ends, weights, next, heads, n, m, &mut degrees);
     let mut count: usize = 0;
     let mut v: usize = 0;
     while v < n {

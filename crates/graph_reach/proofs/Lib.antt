@@ -1,4 +1,4 @@
--- Laws of the definitions in specs/.
-pub mod Leads
+-- Laws of the definitions in specs/, and the invariants of the loops.
 pub mod Marks
+pub mod Targets
 pub mod Spread

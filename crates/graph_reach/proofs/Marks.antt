@@ -10,9 +10,12 @@ use native.Mathlib.Omega.{arith}
 use lib.ListN.{length, getD, set, length-set, List·getD-eq-default}
 use lib.Seq.{getD-set-same, getD-set-other}
 use Rattle.limits.specs.Limits.{mostNodes}
-use Rattle.drawing_spec.specs.Members.{In}
+use Rattle.drawing_spec.specs.Members.{In, All}
 use Rattle.drawing_spec.proofs.Members.{set-cases}
-use Rattle.graph_reach.specs.Marks.{Marked, Marks, Nodes, Tidy, free, markAll, marking, pickMarks, with}
+use Rattle.graph_reach.specs.Marks.{Marked, Marks, Tidy, free, markAll, marking, pickMarks, with}
+
+abbrev pub Nodes : List ℕ → Type 0
+Nodes ws = All (λ (w : ℕ). w < mostNodes) ws
 
 module _ (v : ℕ) (s : Marks) where
   pub marking-old : Marked s v → marking v s ≡ s

@@ -1,4 +1,4 @@
--- Laws of specs/Spread.
+-- The marks spread from node 0 along the edges until none waits: then the marked nodes are those that can be reached. Assumes nothing.
 use mathlib.Core.Path.{_≡_, refl, sym, ap, subst, _∙_}
 use mathlib.Core.Logic.{_⊎_, inl, inr}
 use mathlib.Core.List.{List}
@@ -11,16 +11,15 @@ use Rattle.limits.specs.Limits.{mostNodes}
 use Rattle.drawing_spec.specs.Members.{In}
 use Rattle.drawing_spec.proofs.Members.{set-cases, getD-same}
 use Rattle.graph_spec.specs.Graph.{Edge}
-use Rattle.graph_spec.specs.Ways.{Joined, Reach, here, on}
+use Rattle.graph_spec.specs.Ways.{Inside, Joined, Reach, here, on}
 use Rattle.graph_spec.specs.Reach.{allReached}
 use Rattle.graph_spec.proofs.Reached.{reached-all, all-reached}
-use Rattle.graph_adjacency.specs.Lists.{firstArc}
-use Rattle.graph_edge_arrays.specs.Held.{Held, Holding}
-use Rattle.graph_reach.specs.Marks.{Marks, marks, Marked, markAll, free, Tidy, Nodes}
-use Rattle.graph_reach.proofs.Marks.{marked-below, Waits, waits-on, Grown, tidy-all, grown-all, all-marks, all-only}
-use Rattle.graph_reach.specs.Leads.{Leads, Ready}
-use Rattle.graph_reach.proofs.Leads.{targetsOf, joined-target, target-joined, held-leads, held-nodes}
-use Rattle.graph_reach.specs.Spread.{Tells}
+use Rattle.graph_adjacency.specs.Lists.{Adjacency}
+use Rattle.graph_arrays.specs.Arrays.{edgesIn, EdgesLinked}
+use Rattle.graph_reach.specs.Marks.{Marks, marks, Marked, markAll, free, Tidy, targetsOf}
+use Rattle.graph_reach.proofs.Marks.{Nodes, marked-below, Waits, waits-on, Grown, tidy-all, grown-all, all-marks, all-only}
+use Rattle.graph_reach.proofs.Targets.{joined-target, target-joined, targets-nodes}
+use Rattle.graph_reach.specs.Tells.{Tells}
 
 -- every neighbour of v is marked
 abbrev pub Done : List Edge → Marks → ℕ → Type 0
@@ -35,18 +34,18 @@ pub record Spread (es : List Edge) (s : Marks) (head : ℕ) : Type 0 where
 -- ---- node 0 alone is marked
 
 abbrev pub begun : Marks
-begun = marks (set (replicate 1534 false) 0 true) (replicate 1534 0) 1
+begun = marks (set (replicate mostNodes false) 0 true) (replicate mostNodes 0) 1
 
 begun-only : (v : ℕ) → Marked begun v → v ≡ 0
-begun-only v m = elim (set-cases (replicate 1534 false) 0 true false v) [ inl p ↦ p .0 | inr e ↦ absurd (false≢true (sym (getD-same 1534 v false) ∙ sym e ∙ m)) ]
+begun-only v m = elim (set-cases (replicate mostNodes false) 0 true false v) [ inl p ↦ p .0 | inr e ↦ absurd (false≢true (sym (getD-same mostNodes v false) ∙ sym e ∙ m)) ]
 
 pub begun-tidy : Tidy begun
 unfolding free
 begun-tidy = record {
-  marked-long = length-set (replicate 1534 false) 0 true ∙ length-replicate {A = Bool} 1534 false;
-  queue-long = length-replicate {A = ℕ} 1534 0;
+  marked-long = length-set (replicate mostNodes false) 0 true ∙ length-replicate {A = Bool} mostNodes false;
+  queue-long = length-replicate {A = ℕ} mostNodes 0;
   room = omega arith;
-  queued = λ j h. subst (λ (w : ℕ). Marked begun w) (sym (getD-same 1534 j 0)) refl;
+  queued = λ j h. subst (λ (w : ℕ). Marked begun w) (sym (getD-same mostNodes j 0)) refl;
 }
 
 pub begun-spread : (es : List Edge) → Spread es begun 0
@@ -89,38 +88,30 @@ module _ (es : List Edge) (s : Marks) (t : Tidy s) (head v : ℕ) (h : head < s 
 
 -- ---- the loop over the queue
 
--- whatever graph the arrays hold, its marks have spread from the nodes before `head`
-pub record Walking (n : ℕ) (ends next heads : List ℕ) (s : Marks) (head : ℕ) : Type 0 where
+-- the marks have spread from the nodes before `head`
+pub record Walking (es : List Edge) (s : Marks) (head : ℕ) : Type 0 where
   pub tidy : Tidy s
   pub on : head ≤ s .tail
-  pub spread : (es : List Edge) → Held n es ends next heads → Spread es s head
+  pub spread : Spread es s head
 
-module _ (n : ℕ) (ends next heads : List ℕ) where
-  pub walking-start : Walking n ends next heads begun 0
-  walking-start = record { tidy = begun-tidy; on = omega arith; spread = λ es H. begun-spread es }
+pub walking-start : (es : List Edge) → Walking es begun 0
+walking-start es = record { tidy = begun-tidy; on = omega arith; spread = begun-spread es }
 
-  module _ (s : Marks) (head v : ℕ) (h : head < s .tail) (first : v ≡ getD (s .queue) head 0) (p : Walking n ends next heads s head) where
-    pub walking-ready : Holding n ends next heads → Ready ends next heads s v
-    walking-ready k =
-        let below : v < mostNodes = marked-below s (p .tidy) v (subst (λ (w : ℕ). Marked s w) (sym first) (p .tidy .queued head h)) in
-        record {
-          node = below;
-          tidy = p .tidy;
-          targets = targetsOf (k .edges) v;
-          leads = held-leads n (k .edges) ends next heads (k .is-held) v below;
-          nodes = held-nodes n (k .edges) ends next heads (k .is-held) v;
-        }
+module _ (es : List Edge) (s : Marks) (head v : ℕ) (h : head < s .tail) (first : v ≡ getD (s .queue) head 0) (p : Walking es s head) where
+  pub walking-node : v < mostNodes
+  walking-node = marked-below s (p .tidy) v (subst (λ (w : ℕ). Marked s w) (sym first) (p .tidy .queued head h))
 
-    pub walking-next : (s' : Marks) → Holding n ends next heads → ((ws : List ℕ) → Leads ends next heads v (firstArc heads v) ws → s' ≡ markAll ws s) → Walking n ends next heads s' (head + 1)
-    walking-next s' k e =
-        let r = walking-ready k in
-        let is = e (r .targets) (r .leads) in
-        record {
-          tidy = rw is (tidy-all (r .targets) s (r .nodes) (p .tidy));
-          on = rw is (omega (arith, grown-all (r .targets) s (r .nodes) (p .tidy) .longer, h));
-          spread = λ es H. rw (e (targetsOf es v) (held-leads n es ends next heads H v (r .node)))
-              (spread-next es s (p .tidy) head v h (sym first) (targetsOf es v) (held-nodes n es ends next heads H v) (joined-target es v) (target-joined es v) (p .spread es H));
-        }
+pub walking-next : (n m : ℕ) (a : Adjacency) (s : Marks) (head v : ℕ) → head < s .tail → v ≡ getD (s .queue) head 0 → Walking (edgesIn m a) s head
+    → EdgesLinked n m a → (s' : Marks) → s' ≡ markAll (targetsOf (edgesIn m a) v) s → Walking (edgesIn m a) s' (head + 1)
+walking-next n m a s head v h first p L s' is =
+    let es = edgesIn m a in
+    let ws = targetsOf es v in
+    let nodes = targets-nodes n m a L v in
+    record {
+      tidy = rw is (tidy-all ws s nodes (p .tidy));
+      on = rw is (omega (arith, grown-all ws s nodes (p .tidy) .longer, h));
+      spread = rw is (spread-next es s (p .tidy) head v h (sym first) ws nodes (joined-target es v) (target-joined es v) (p .spread));
+    }
 
 -- ---- at the end
 
@@ -132,15 +123,11 @@ reached-marked es s head p h v (on {u = u} r j) = elim (p .done u (reached-marke
 ]
 
 -- check 9
-pub walked : (n : ℕ) (ends next heads : List ℕ) (s : Marks) (head : ℕ) (r : Bool) → s .tail ≤ head → Walking n ends next heads s head → Tells n (s .marked) r
-    → (es : List Edge) → Held n es ends next heads → r ≡ allReached n es
-walked n ends next heads s head r h p t es H = go r (allReached n es) refl refl
+pub walked : (n : ℕ) (es : List Edge) (s : Marks) (head : ℕ) (r : Bool) → Inside n es → s .tail ≤ head → Walking es s head → Tells n (s .marked) r → r ≡ allReached n es
+walked n es s head r inside h p t = go r (allReached n es) refl refl
   where
-    sp : Spread es s head
-    sp = p .spread es H
-
     go : (a b : Bool) → r ≡ a → allReached n es ≡ b → a ≡ b
     go true true ea eb = refl
     go false false ea eb = refl
-    go true false ea eb = sym (sym eb ∙ reached-all n es (H .by-ends .inside) (λ v l. sp .sound v (t .all ea v l)))
-    go false true ea eb = sym ea ∙ t .only (λ v l. reached-marked es s head sp h v (all-reached n es eb v l))
+    go true false ea eb = sym (sym eb ∙ reached-all n es inside (λ v l. p .spread .sound v (t .all ea v l)))
+    go false true ea eb = sym ea ∙ t .only (λ v l. reached-marked es s head (p .spread) h v (all-reached n es eb v l))

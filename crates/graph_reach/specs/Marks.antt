@@ -1,11 +1,11 @@
 -- Marked nodes, in a queue in the order in which they were marked. Assumes nothing.
 use mathlib.Core.Path.{_≡_}
-use mathlib.Core.List.{List, [], _∷_}
+use mathlib.Core.List.{List, [], _∷_, map}
 use mathlib.Core.Bool.{Bool, true, false}
 use Prim.Native.Nat.{ℕ, suc, _+_, _≤_, _<_}
 use lib.ListN.{length, getD, set}
 use Rattle.limits.specs.Limits.{mostNodes}
-use Rattle.drawing_spec.specs.Members.{All}
+use Rattle.graph_spec.specs.Graph.{Edge, Arc, edgesAt}
 
 -- which nodes are marked, the nodes in the order in which they were, and how many of these there are
 pub record Marks : Type 0 where
@@ -35,6 +35,10 @@ unfoldable pub markAll : List ℕ → Marks → Marks
 markAll [] s = s
 markAll (w ∷ ws) s = markAll ws (marking w s)
 
+-- the nodes that v is joined with, in document 01's order of its edges
+abbrev pub targetsOf : List Edge → ℕ → List ℕ
+targetsOf es v = map (λ (r : Arc). r .to) (edgesAt es v)
+
 -- ---- there is room in the queue for every node that is not marked
 
 -- how many nodes are not marked
@@ -48,8 +52,3 @@ pub record Tidy (s : Marks) : Type 0 where
   pub queue-long : length (s .queue) ≡ mostNodes
   pub room : s .tail + free (s .marked) ≤ mostNodes
   pub queued : (j : ℕ) → j < s .tail → Marked s (getD (s .queue) j 0)
-
--- ---- several nodes
-
-abbrev pub Nodes : List ℕ → Type 0
-Nodes ws = All (λ (w : ℕ). w < mostNodes) ws

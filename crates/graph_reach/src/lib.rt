@@ -1,16 +1,14 @@
 // Check 9: whether every node can be reached from node 0. Nodes are marked and wait in a queue; each is
 // looked at once, and so is each of its edges.
 ghost use mathlib.Core.Path.{_≡_};
-ghost use mathlib.Core.List.{List};
-ghost use Prim.Native.Nat.{ℕ, _<_, _≤_};
+ghost use Prim.Native.Nat.{_<_, _≤_};
 ghost use Rattle.limits.specs.Limits.{mostNodes};
-ghost use Rattle.graph_spec.specs.Graph.{Edge};
 ghost use Rattle.graph_spec.specs.Reach.{allReached};
-ghost use Rattle.graph_adjacency.specs.Lists.{firstArc};
-ghost use Rattle.graph_edge_arrays.specs.Held.{Held, Holding};
-ghost use Rattle.graph_reach.specs.Marks.{marks, Tidy, marking, markAll};
-ghost use Rattle.graph_reach.specs.Leads.{Leads, Ready};
-ghost use Rattle.graph_reach.specs.Spread.{Tells};
+ghost use Rattle.graph_adjacency.specs.Lists.{adjacency};
+ghost use Rattle.graph_arrays.specs.Arrays.{edgesIn, EdgesLinked};
+ghost use Rattle.graph_reach.specs.Marks.{marks, Tidy, marking, markAll, targetsOf};
+ghost use Rattle.graph_reach.specs.Tells.{Tells};
+use limits::ARC_ROOM;
 use limits::EDGE_ROOM;
 use limits::MOST_NODES;
 
@@ -35,16 +33,21 @@ fn mark(
 
 // Marks the nodes that v is joined with.
 fn mark_neighbours(
-    ends: &[u16; 2 * EDGE_ROOM],
-    next: &[u16; 2 * EDGE_ROOM],
+    ends: &[u16; ARC_ROOM],
+    weights: &[f64; EDGE_ROOM],
+    next: &[u16; ARC_ROOM],
     heads: &[u16; 2 * MOST_NODES],
+    n: usize,
+    m: usize,
     marked: &mut [bool; MOST_NODES],
     queue: &mut [u16; MOST_NODES],
     tail: usize,
     v: usize,
 ) -> usize
-    requires { ⌜ Ready (now ends) (now next) (now heads) (marks (now marked) (now queue) tail) v ⌝ }
-    ensures { λ r. ⌜ ((ws : List ℕ) → Leads (now (ends .entry)) (now (next .entry)) (now (heads .entry)) v (firstArc (now (heads .entry)) v) ws → marks (now (marked .exit)) (now (queue .exit)) r ≡ markAll ws (marks (now (marked .entry)) (now (queue .entry)) tail)) ⌝ }
+    requires edges { ⌜ EdgesLinked n m (adjacency (now ends) (now weights) (now next) (now heads)) ⌝ }
+    requires node { ⌜ v < mostNodes ⌝ }
+    requires tidy { ⌜ Tidy (marks (now marked) (now queue) tail) ⌝ }
+    ensures { λ r. ⌜ marks (now (marked .exit)) (now (queue .exit)) r ≡ markAll (targetsOf (edgesIn m (adjacency (now (ends .entry)) (now (weights .entry)) (now (next .entry)) (now (heads .entry)))) v) (marks (now (marked .entry)) (now (queue .entry)) tail) ⌝ }
 {
     let mut end = tail;
     let mut k = graph_adjacency::first_arc(heads, v);
@@ -71,15 +74,17 @@ fn all_marked(marked: &[bool; MOST_NODES], n: usize) -> bool
     true
 }
 
-// Whether every one of n nodes can be reached from node 0.
+// Check 9: whether every one of n nodes can be reached from node 0 by the first m edges.
 pub fn all_reached(
-    ends: &[u16; 2 * EDGE_ROOM],
-    next: &[u16; 2 * EDGE_ROOM],
+    ends: &[u16; ARC_ROOM],
+    weights: &[f64; EDGE_ROOM],
+    next: &[u16; ARC_ROOM],
     heads: &[u16; 2 * MOST_NODES],
     n: usize,
+    m: usize,
 ) -> bool
-    requires { ⌜ Holding n (now ends) (now next) (now heads) ⌝ }
-    ensures { λ r. ⌜ ((es : List Edge) → Held n es (now (ends .entry)) (now (next .entry)) (now (heads .entry)) → r ≡ allReached n es) ⌝ }
+    requires { ⌜ EdgesLinked n m (adjacency (now ends) (now weights) (now next) (now heads)) ⌝ }
+    ensures { λ r. ⌜ r ≡ allReached n (edgesIn m (adjacency (now (ends .entry)) (now (weights .entry)) (now (next .entry)) (now (heads .entry)))) ⌝ }
 {
     let mut marked = [false; MOST_NODES];
     let mut queue = [0u16; MOST_NODES];
@@ -88,7 +93,18 @@ pub fn all_reached(
     let mut tail: usize = 1;
     while head < tail {
         let v = widen::wide(queue[head]);
-        tail = mark_neighbours(ends, next, heads, &mut marked, &mut queue, tail, v);
+        tail = mark_neighbours(
+            ends,
+            weights,
+            next,
+            heads,
+            n,
+            m,
+            &mut marked,
+            &mut queue,
+            tail,
+            v,
+        );
         head += 1;
     }
     all_marked(&marked, n)

@@ -1,4 +1,4 @@
--- `odd::count_edge` meets its contract: the stores are those of `bumped`. Assumes nothing.
+-- `graph_odd::count_edge` meets its contract: the stores are those of `bumped`. Assumes nothing.
 use mathlib.Core.Path.{ap₂}
 use Prim.Native.Nat.{ℕ}
 use native.Mathlib.Omega.{arith}

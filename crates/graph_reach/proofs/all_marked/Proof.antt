@@ -1,4 +1,4 @@
--- `reach::all_marked` meets its contract. The invariant: the nodes passed are marked. Assumes nothing.
+-- `graph_reach::all_marked` meets its contract. The invariant: the nodes passed are marked. Assumes nothing.
 use mathlib.Core.Path.{_≡_, refl, sym, _∙_}
 use mathlib.Core.Bool.{true, false, false≢true}
 use Prim.Native.Nat.{ℕ, _-_, _≤_, _<_}

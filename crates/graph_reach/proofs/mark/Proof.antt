@@ -1,4 +1,4 @@
--- `reach::mark` meets its contract. There is room in the queue, since each node that is not marked has its place. Assumes nothing.
+-- `graph_reach::mark` meets its contract. There is room in the queue, since each node that is not marked has its place. Assumes nothing.
 use mathlib.Core.Path.{sym}
 use Rattle.graph_reach.proofs.Marks.{marking-old, marking-new, room-for}
 use borrow.Author.Needs.{needs}

@@ -1,4 +1,4 @@
--- The marks spread from node 0 along the edges until none waits: then the marked nodes are those that can be reached. Assumes nothing.
+-- Whether the marks are on every node. Assumes nothing.
 use mathlib.Core.Path.{_≡_}
 use mathlib.Core.List.{List}
 use mathlib.Core.Bool.{Bool, true, false}
