@@ -4,7 +4,7 @@ use mathlib.Core.List.{List, _∷_}
 use mathlib.Core.Bool.{true, false}
 use Prim.Native.Nat.{ℕ, _+_, _-_, _*_, _≤_, _<_}
 use native.Mathlib.Omega.{arith}
-use lib.ListN.{length, getD, set, replicate, length-set}
+use lib.ListN.{length, getD, set, replicate, length-set, length-replicate}
 use Rattle.limits.specs.Limits.{mostNodes, edgeRoom, arcRoom, lineRoom}
 use Rattle.graph_spec.specs.Graph.{Edge, edgesAt}
 use Rattle.graph_adjacency.specs.Lists.{Adjacency, firstArc, nextArc, edgeNumber}
@@ -95,11 +95,12 @@ module _ (n m : ℕ) (a : Adjacency) (L : EdgesLinked n m a) where
     pub out-walks : (t : Stand) → fuel ≤ 0 → Walks n m a s fuel t → Over n m a s (t .nodes) (t .bys) (t .node) (t .by) (t .place)
     out-walks t z w = out-by n (edgesIn m a) a s (L .few-nodes) few (L .inside) fuel t w z
 
-  pub start-walks : (s : ℕ) (arcs nodes bys : List ℕ) → FirstArcs (a .heads) n arcs → s < n → length nodes ≡ lineRoom → length bys ≡ lineRoom
-      → Walks n m a s (2 * m + 1) (stand (replicate edgeRoom false) arcs nodes bys 0 s 0 lineRoom)
-  start-walks s arcs nodes bys f ls ln lb =
-      subst (λ (k : ℕ). Standing n (edgesIn m a) a s (2 * k + 1) (stand (replicate edgeRoom false) arcs nodes bys 0 s 0 lineRoom)) (edges-count m a)
-      (start-stands n (edgesIn m a) a s arcs nodes bys few (λ v h. follows-edges n m a L v (omega (arith, L .few-nodes))) f ls ln lb)
+  pub start-walks : (s : ℕ) (arcs : List ℕ) → FirstArcs (a .heads) n arcs → s < n
+      → Walks n m a s (2 * m + 1) (stand (replicate edgeRoom false) arcs (replicate lineRoom 0) (replicate lineRoom 0) 0 s 0 lineRoom)
+  start-walks s arcs f ls =
+      subst (λ (k : ℕ). Standing n (edgesIn m a) a s (2 * k + 1) (stand (replicate edgeRoom false) arcs (replicate lineRoom 0) (replicate lineRoom 0) 0 s 0 lineRoom)) (edges-count m a)
+      (start-stands n (edgesIn m a) a s arcs (replicate lineRoom 0) (replicate lineRoom 0) few (λ v h. follows-edges n m a L v (omega (arith, L .few-nodes))) f ls
+      (length-replicate {A = ℕ} lineRoom 0) (length-replicate {A = ℕ} lineRoom 0))
 
 -- the last entry goes in front
 module _ (n : ℕ) (nodes bys : List ℕ) (depth node by place : ℕ) (w : Within n nodes bys depth node place) where

@@ -2,13 +2,12 @@
 // arc of its list before which every edge is used.
 ghost use mathlib.Core.Path.{_≡_};
 ghost use Prim.Native.Nat.{_<_};
-ghost use lib.ListN.{length};
-ghost use Rattle.limits.specs.Limits.{lineRoom};
 ghost use Rattle.graph_adjacency.specs.Lists.{adjacency};
 ghost use Rattle.graph_arrays.specs.Arrays.{EdgesLinked, edgesIn};
 ghost use Rattle.walk_spec.specs.Walk as definition;
 ghost use Rattle.walk_circuit.specs.Entries.{EntriesIn, entriesFrom};
 ghost use Rattle.walk_circuit.specs.FirstArcs.{FirstArcs};
+use limits::ARC_ROOM;
 use limits::EDGE_ROOM;
 use limits::LINE_ROOM;
 use limits::MOST_NODES;
@@ -18,9 +17,9 @@ type Cursor = u16;
 
 // The first arc of each of the n nodes.
 fn first_arcs(
-    ends: &[u16; 2 * EDGE_ROOM],
+    ends: &[u16; ARC_ROOM],
     weights: &[f64; EDGE_ROOM],
-    next: &[u16; 2 * EDGE_ROOM],
+    next: &[u16; ARC_ROOM],
     heads: &[u16; 2 * MOST_NODES],
     n: usize,
     m: usize,
@@ -41,9 +40,9 @@ fn first_arcs(
 // answer to the end of the two arrays: the nodes, and how each was entered, 0 for the first and i + 1 by the
 // edge i. The front of the arrays is the stack of the walk, which never meets them.
 pub fn circuit(
-    ends: &[u16; 2 * EDGE_ROOM],
+    ends: &[u16; ARC_ROOM],
     weights: &[f64; EDGE_ROOM],
-    next: &[u16; 2 * EDGE_ROOM],
+    next: &[u16; ARC_ROOM],
     heads: &[u16; 2 * MOST_NODES],
     n: usize,
     m: usize,
@@ -52,12 +51,14 @@ pub fn circuit(
     bys: &mut [u16; LINE_ROOM],
 ) -> usize
     requires start { ⌜ s < n ⌝ }
-    requires room { ⌜ (length (now nodes) ≡ lineRoom) × (length (now bys) ≡ lineRoom) ⌝ }
     requires edges { ⌜ EdgesLinked n m (adjacency (now ends) (now weights) (now next) (now heads)) ⌝ }
     ensures { λ r. ⌜ entriesFrom r (now (nodes .exit)) (now (bys .exit)) ≡ definition.circuit (edgesIn m (adjacency (now (ends .entry)) (now (weights .entry)) (now (next .entry)) (now (heads .entry)))) s ⌝ }
     ensures { λ r. ⌜ EntriesIn n r (now (nodes .exit)) ⌝ }
 {
-    // Beside the two arrays that are lent, 16,008 bytes, these are the walk's state: 4,001 and 3,068 bytes.
+    // Behind a reference an array's length is not known until it is written whole.
+    *nodes = [0; LINE_ROOM];
+    *bys = [0; LINE_ROOM];
+    // Beside these two, 8,004 bytes each, the walk's state is 4,001 and 3,068 bytes.
     let mut used = [false; EDGE_ROOM];
     let mut cursors = first_arcs(ends, weights, next, heads, n, m);
     let mut depth: usize = 0;

@@ -29,18 +29,18 @@ abbrev μ-walk : tie.MeasureT-walk
     fuel
 
 -- what the arrays hold
-abbrev arrays : tie.Start Inv-loop μ-loop Inv-walk μ-walk → Adjacency
-arrays c = adjacency (c .args .ends .now) (c .args .weights .now) (c .args .next .now) (c .args .heads .now)
+abbrev arrays : tie.After-bys Inv-loop μ-loop Inv-walk μ-walk → Adjacency
+arrays c = adjacency (c .before .before .args .ends .now) (c .before .before .args .weights .now) (c .before .before .args .next .now) (c .before .before .args .heads .now)
 
-linked : (c : tie.Start Inv-loop μ-loop Inv-walk μ-walk) → EdgesLinked (c .args .n) (c .args .m) (arrays c)
-linked c = c .pre .1 .1
+linked : (c : tie.After-bys Inv-loop μ-loop Inv-walk μ-walk) → EdgesLinked (c .before .before .args .n) (c .before .before .args .m) (arrays c)
+linked c = c .before .before .pre .1
 
 -- the arc that is looked at
 arc : (c : tie.In-loop Inv-loop μ-loop Inv-walk μ-walk) → ArcIn (arrays (c .before .before .before .before .before .before)) (c .before .loop .node) (c .before .loop .k)
 arc c = looks-arc _ _ _ (linked (c .before .before .before .before .before .before)) _ (stand (c .before .loop .used) (c .before .loop .cursors) (c .before .loop .nodes) (c .before .loop .bys) (c .before .loop .depth) (c .before .loop .node) (c .before .loop .by) (c .before .before .before .before .walk .place)) (c .loop-test .taken) (c .before .loop .inv .2)
 
 -- both ways out of the walk
-over : (c : tie.Left-walk Inv-loop μ-loop Inv-walk μ-walk) → Within (c .before .before .before .args .n) (c .walk-test .nodes) (c .walk-test .bys) (c .walk-test .depth) (c .walk-test .node) (c .before .walk .place) × Over (c .before .before .before .args .n) (c .before .before .before .args .m) (arrays (c .before .before .before)) (c .before .before .before .args .s) (c .walk-test .nodes) (c .walk-test .bys) (c .walk-test .node) (c .walk-test .by) (c .before .walk .place)
+over : (c : tie.Left-walk Inv-loop μ-loop Inv-walk μ-walk) → Within (c .before .before .before .before .before .args .n) (c .walk-test .nodes) (c .walk-test .bys) (c .walk-test .depth) (c .walk-test .node) (c .before .walk .place) × Over (c .before .before .before .before .before .args .n) (c .before .before .before .before .before .args .m) (arrays (c .before .before .before)) (c .before .before .before .before .before .args .s) (c .walk-test .nodes) (c .walk-test .bys) (c .walk-test .node) (c .walk-test .by) (c .before .walk .place)
 over c = ⊎-elim
     (λ w. rw (w .1, w .2, w .3, w .4, w .5) (c .before .walk .inv .0, out-walks _ _ _ (linked (c .before .before .before)) _ _ (stand (c .before .walk .used) (c .before .walk .cursors) (c .before .walk .nodes) (c .before .walk .bys) (c .before .walk .depth) (c .before .walk .node) (c .before .walk .by) (c .before .walk .place)) (w .0 .left) (c .before .walk .inv .1)))
     (λ w. rw (w .5, w .6, w .7, w .8, w .9) (w .2 .inv .0, over-walks _ _ _ (linked (c .before .before .before)) _ _ _ (stand (w .2 .used) (w .2 .cursors) (w .2 .nodes) (w .2 .bys) (w .2 .depth) (w .2 .node) (w .2 .by) (c .before .walk .place)) (w .3 .left) (w .4 .taken) (w .2 .inv .1) (w .2 .inv .2)))
@@ -57,7 +57,7 @@ add-fuel c = search needs
 
 walk-holds : tie.Need-walk-holds Inv-loop μ-loop Inv-walk μ-walk
 walk-holds c =
-    let w = start-walks _ _ _ (linked (c .before)) _ _ _ _ (c .first-arcs .ensures) (c .before .pre .0) (c .before .pre .1 .0 .0) (c .before .pre .1 .0 .1) in
+    let w = start-walks _ _ _ (linked (c .before)) _ _ (c .first-arcs .ensures) (c .before .before .before .pre .0) in
     (walks-within _ _ _ (linked (c .before)) _ _ _ w, w)
 
 sub-fuel : tie.Need-sub-fuel Inv-loop μ-loop Inv-walk μ-walk
