@@ -4,3 +4,4 @@ pub mod Filled
 pub mod Tabulate
 pub mod Arrays
 pub mod NodeList
+pub mod Listing
