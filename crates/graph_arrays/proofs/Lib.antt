@@ -3,3 +3,5 @@ pub mod Ends
 pub mod Filled
 pub mod Tabulate
 pub mod Arrays
+pub mod NodeList
+pub mod Listing

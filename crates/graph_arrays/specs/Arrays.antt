@@ -3,10 +3,11 @@
 -- arrays says by these functions and records what they hold.
 use mathlib.Core.Path.{_≡_}
 use mathlib.Core.List.{List}
-use Prim.Native.Nat.{ℕ, _+_, _^_, _≤_, _<_}
+use Prim.Native.Nat.{ℕ, _+_, _*_, _≤_, _<_}
 use lib.ListN.{length, getD, take}
 use lib.Ieee.{nan}
 use Rattle.limits.specs.Limits.{mostNodes, mostEdges, edgeRoom}
+use Rattle.grid.specs.Grid.{origin}
 use Rattle.drawing_spec.specs.Drawing.{Point}
 use Rattle.graph_spec.specs.Graph.{Edge, edge, Graph}
 use Rattle.graph_spec.specs.Ways.{Inside}
@@ -47,8 +48,8 @@ pub record EdgesHeld (n m : ℕ) (a : Adjacency) : Type 0 where
 -- The n nodes lie on the grid, and so does whatever stands behind the last one.
 pub record NodesHeld (n : ℕ) (xs ys : List ℕ) : Type 0 where
   pub few : n ≤ mostNodes
-  pub xs-on : (v : ℕ) → getD xs v 0 ≤ 2 ^ 24
-  pub ys-on : (v : ℕ) → getD ys v 0 ≤ 2 ^ 24
+  pub xs-on : (v : ℕ) → getD xs v 0 ≤ 2 * origin
+  pub ys-on : (v : ℕ) → getD ys v 0 ≤ 2 * origin
 
 -- The first `count` elements of an array are the list vs.
 pub record Front (vs array : List ℕ) (count : ℕ) : Type 0 where

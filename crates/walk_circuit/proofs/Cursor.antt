@@ -6,6 +6,7 @@ use mathlib.Core.Bool.{Bool, true, false}
 use Prim.Native.Nat.{ℕ, zero, suc, _-_, _≤_, _<_}
 use native.Mathlib.Omega.{arith}
 use lib.ListN.{length, getD, set}
+use Rattle.limits.specs.Limits.{arcRoom}
 use Rattle.graph_spec.specs.Graph.{Edge, Arc, edgesAt}
 use Rattle.drawing_spec.specs.Members.{In}
 use Rattle.graph_spec.proofs.EdgesAt.{edgesAt-arc}
@@ -91,7 +92,7 @@ module _ (g : Adjacency) (all : List Arc) (marks : List Bool) (v : ℕ) where
 
 -- what is known of an arc at a cursor
 pub record ArcThere (es : List Edge) (g : Adjacency) (v k : ℕ) : Type 0 where
-  pub within : k ≤ 8002
+  pub within : k ≤ arcRoom
   pub falls : nextArc (g .next) (g .heads) v k < k
   pub isEdge : edgeNumber k < length es
 
@@ -105,3 +106,11 @@ cursor-arc es g marks v k p c = go (c .rest) (c .follows) (c .within)
         let a = follows-arc g v k r rs f in
         let number : edgeNumber k ≡ r .number = ap (λ (x : Arc). x .number) (a .is) in
         record { within = a .within; falls = a .falls; isEdge = rw number (edgesAt-arc es v r (w r (inl refl)) .isEdge) }
+
+-- whether or not there is an arc
+pub cursor-within : (g : Adjacency) (all : List Arc) (marks : List Bool) (v k : ℕ) → Cursor g all marks v k → k ≤ arcRoom
+cursor-within g all marks v k c = go (c .rest) (c .follows)
+  where
+    go : (rest : List Arc) → Follows g v k rest → k ≤ arcRoom
+    go [] f = omega (arith, follows-none g v k f)
+    go (r ∷ rs) f = follows-arc g v k r rs f .within

@@ -1,4 +1,4 @@
--- Laws of specs/Standing.
+-- What holds while the walk goes on by cursors: the rest of the walk, from here, gives the circuit. Each step of the code keeps it.
 use mathlib.Core.Path.{_≡_, refl, sym, ap, _∙_, subst}
 use mathlib.Core.Logic.{inl, inr}
 use mathlib.Core.List.{List, [], _∷_}
@@ -10,21 +10,19 @@ use native.Mathlib.Decide.{ℕ-discrete}
 use native.Mathlib.Omega.{arith}
 use lib.ListN.{length, getD, set, take, replicate, length-set, length-replicate}
 use lib.Seq.{getD-set-same, getD-set-other, getD-take, take-set-lt}
-use Rattle.limits.specs.Limits.{mostNodes, lineRoom}
+use Rattle.limits.specs.Limits.{mostNodes, edgeRoom, lineRoom}
 use Rattle.graph_spec.specs.Graph.{Edge, edgesAt}
-use Rattle.graph_spec.specs.Ways.{Joins}
-use Rattle.drawing_spec.specs.Members.{In}
+use Rattle.graph_spec.specs.Ways.{Joins, Inside}
 use Rattle.graph_spec.proofs.EdgesAt.{edgeAt, edgeAt-in}
-use Rattle.graph_adjacency.specs.Lists.{Adjacency, adjacency, lists, firstArc, edgeNumber}
-use Rattle.graph_adjacency.specs.Follow.{Ends, Follows}
-use Rattle.graph_adjacency.proofs.Follow.{lists-follow}
+use Rattle.graph_adjacency.specs.Lists.{Adjacency, firstArc, edgeNumber}
+use Rattle.graph_adjacency.specs.Follow.{Follows}
 use Rattle.walk_spec.specs.Walk.{By, Entry, Next, spent, along, next, walk, circuit}
 use Rattle.walk_spec.proofs.Free.{allSum, freeSum, freeSum-use, freeSum-all}
 use Rattle.walk_spec.proofs.Next.{Leads, Fits, next-fits}
 use Rattle.walk_circuit.proofs.Cursor.{Cursor, ArcThere, stays-set, cursor-first, cursor-later, cursor-none, cursor-free, cursor-arc}
 use Rattle.walk_circuit.specs.Entries.{byOf, entryOf, entriesOf, entriesFrom}
 use Rattle.walk_circuit.proofs.Entries.{by-edge, stackOf, stack-other, entries-other, stack-push, stack-top, entries-put}
-use Rattle.walk_circuit.specs.Standing.{FirstArcs, Holds}
+use Rattle.walk_circuit.specs.FirstArcs.{FirstArcs}
 
 -- ---- the definition, a step at a time
 
@@ -72,28 +70,28 @@ unused es marks = freeSum (λ (i : ℕ) (e : Edge). 1) 0 es marks
 abbrev pub marksOf : List Edge → List Bool → List Bool
 marksOf es used = take (length es) used
 
-pub record Standing (es : List Edge) (g : Adjacency) (s fuel : ℕ) (t : Stand) : Type 0 where
+pub record Standing (n : ℕ) (es : List Edge) (g : Adjacency) (s fuel : ℕ) (t : Stand) : Type 0 where
   pub same : walk fuel es (marksOf es (t .used)) (entryOf (t .node) (t .by)) (stackOf (t .depth) (t .nodes) (t .bys)) (entriesFrom (t .place) (t .nodes) (t .bys)) ≡ circuit es s
   -- each edge is unused, or entered an entry of the stack or one that was taken off
   pub each : t .depth + unused es (marksOf es (t .used)) + (lineRoom - t .place) ≡ length es
   pub place-in : t .place ≤ lineRoom
-  pub node-in : t .node < mostNodes
-  pub below-in : (j : ℕ) → j < t .depth → getD (t .nodes) j 0 < mostNodes
-  pub off-in : (j : ℕ) → t .place ≤ j → j < lineRoom → getD (t .nodes) j 0 < mostNodes
-  pub used-long : length (t .used) ≡ 4001
+  pub node-in : t .node < n
+  pub below-in : (j : ℕ) → j < t .depth → getD (t .nodes) j 0 < n
+  pub off-in : (j : ℕ) → t .place ≤ j → j < lineRoom → getD (t .nodes) j 0 < n
+  pub used-long : length (t .used) ≡ edgeRoom
   pub cursors-long : length (t .cursors) ≡ mostNodes
   pub nodes-long : length (t .nodes) ≡ lineRoom
   pub bys-long : length (t .bys) ≡ lineRoom
-  pub cursors-are : (v : ℕ) → v < mostNodes → Cursor g (edgesAt es v) (marksOf es (t .used)) v (getD (t .cursors) v 0)
+  pub cursors-are : (v : ℕ) → v < n → Cursor g (edgesAt es v) (marksOf es (t .used)) v (getD (t .cursors) v 0)
 
--- What holds whatever the edges are: what the code's indices and casts need, and that of the entries which are taken off.
-pub record Within (m : ℕ) (nodes bys : List ℕ) (depth node place : ℕ) : Type 0 where
-  pub node-in : node < mostNodes
-  pub depth-in : depth ≤ 4001
+-- Of that, what the code's indices and casts need.
+pub record Within (n : ℕ) (nodes bys : List ℕ) (depth node place : ℕ) : Type 0 where
+  pub few : n ≤ mostNodes
+  pub node-in : node < n
+  pub depth-in : depth ≤ edgeRoom
   pub place-some : 0 < place
   pub place-in : place ≤ lineRoom
-  pub few : lineRoom ≤ place + m
-  pub off-in : (j : ℕ) → place ≤ j → j < lineRoom → getD nodes j 0 < mostNodes
+  pub off-in : (j : ℕ) → place ≤ j → j < lineRoom → getD nodes j 0 < n
   pub nodes-long : length nodes ≡ lineRoom
   pub bys-long : length bys ≡ lineRoom
 
@@ -104,44 +102,38 @@ getD-default (b ∷ bs) zero c d h = refl
 getD-default (b ∷ bs) (suc i) c d h = getD-default bs i c d (omega (arith, h))
 
 -- what the code reads of a mark
-pub mark-is : (es : List Edge) (used : List Bool) (i : ℕ) → length used ≡ 4001 → length es ≤ 4001 → i < length es → getD used i false ≡ getD (marksOf es used) i true
+pub mark-is : (es : List Edge) (used : List Bool) (i : ℕ) → length used ≡ edgeRoom → length es ≤ edgeRoom → i < length es → getD used i false ≡ getD (marksOf es used) i true
 mark-is es used i l f h = getD-default used i false true (omega arith) ∙ sym (getD-take (length es) used i true h)
 
-ends-both : (es : List Edge) (e : Edge) → Ends es → In e es → (e .a < mostNodes) × (e .b < mostNodes)
-unfolding Ends
-ends-both [] e n i = absurd i
-ends-both (x ∷ es) e n (inl p) = rw p (n .0, n .1)
-ends-both (x ∷ es) e n (inr i) = ends-both es e (n .2) i
-
-leads-in : (es : List Edge) (marks : List Bool) (u i v : ℕ) → Ends es → Leads es marks u i v → v < mostNodes
-leads-in es marks u i v n l = go (ends-both es (edgeAt es i) n (edgeAt-in es i (l .isEdge))) (l .joins)
+leads-in : (n : ℕ) (es : List Edge) (marks : List Bool) (u i v : ℕ) → Inside n es → Leads es marks u i v → v < n
+leads-in n es marks u i v inside l = go (inside (edgeAt es i) (edgeAt-in es i (l .isEdge))) (l .joins)
   where
-    go : (edgeAt es i .a < mostNodes) × (edgeAt es i .b < mostNodes) → Joins (edgeAt es i) u v → v < mostNodes
-    go b (inl j) = subst (λ (x : ℕ). x < mostNodes) (j .1) (b .1)
-    go b (inr j) = subst (λ (x : ℕ). x < mostNodes) (j .0) (b .0)
+    go : (edgeAt es i .a < n) × (edgeAt es i .b < n) → Joins (edgeAt es i) u v → v < n
+    go b (inl j) = subst (λ (x : ℕ). x < n) (j .1) (b .1)
+    go b (inr j) = subst (λ (x : ℕ). x < n) (j .0) (b .0)
 
 -- one entry more that was taken off
-pub off-more : (nodes : List ℕ) (node place : ℕ) → node < mostNodes → ((j : ℕ) → place ≤ j → j < lineRoom → getD nodes j 0 < mostNodes)
-    → place - 1 < length nodes → (j : ℕ) → place - 1 ≤ j → j < lineRoom → getD (set nodes (place - 1) node) j 0 < mostNodes
-off-more nodes node place n off l j h i = elim (ℕ-discrete j (place - 1)) [
-  | yes e ↦ rw (e, getD-set-same nodes (place - 1) node 0 l) n
+pub off-more : (n : ℕ) (nodes : List ℕ) (node place : ℕ) → node < n → ((j : ℕ) → place ≤ j → j < lineRoom → getD nodes j 0 < n)
+    → place - 1 < length nodes → (j : ℕ) → place - 1 ≤ j → j < lineRoom → getD (set nodes (place - 1) node) j 0 < n
+off-more n nodes node place below off l j h i = elim (ℕ-discrete j (place - 1)) [
+  | yes e ↦ rw (e, getD-set-same nodes (place - 1) node 0 l) below
   | no a ↦ rw (getD-set-other nodes (place - 1) j node 0 a) (off j (omega (arith, h, a)) i)
 ]
 
-module _ (es : List Edge) (g : Adjacency) (s : ℕ) (few : length es ≤ 4001) (inside : Ends es) where
+module _ (n : ℕ) (es : List Edge) (g : Adjacency) (s : ℕ) (room : n ≤ mostNodes) (few : length es ≤ edgeRoom) (inside : Inside n es) where
   -- a cursor moved on
-  moved-are : (marks : List Bool) (cursors : List ℕ) (u k : ℕ) → length cursors ≡ mostNodes → Cursor g (edgesAt es u) marks u k
-      → ((v : ℕ) → v < mostNodes → Cursor g (edgesAt es v) marks v (getD cursors v 0))
-      → (v : ℕ) → v < mostNodes → Cursor g (edgesAt es v) marks v (getD (set cursors u k) v 0)
-  moved-are marks cursors u k l c are v h = elim (ℕ-discrete v u) [
-    | yes e ↦ rw (e, getD-set-same cursors u k 0 (omega arith)) c
-    | no n ↦ rw (getD-set-other cursors u v k 0 n) (are v h)
+  moved-are : (marks : List Bool) (cursors : List ℕ) (u k : ℕ) → u < n → length cursors ≡ mostNodes → Cursor g (edgesAt es u) marks u k
+      → ((v : ℕ) → v < n → Cursor g (edgesAt es v) marks v (getD cursors v 0))
+      → (v : ℕ) → v < n → Cursor g (edgesAt es v) marks v (getD (set cursors u k) v 0)
+  moved-are marks cursors u k hu l c are v h = elim (ℕ-discrete v u) [
+    | yes e ↦ rw (e, getD-set-same cursors u k 0 (omega (arith, room))) c
+    | no d ↦ rw (getD-set-other cursors u v k 0 d) (are v h)
   ]
 
   -- along the free arc k
-  pub push-stands : (fuel k : ℕ) (t : Stand) → Standing es g s (fuel + 1) t → 0 < k → Cursor g (edgesAt es (t .node)) (marksOf es (t .used)) (t .node) k
+  pub push-stands : (fuel k : ℕ) (t : Stand) → Standing n es g s (fuel + 1) t → 0 < k → Cursor g (edgesAt es (t .node)) (marksOf es (t .used)) (t .node) k
       → getD (t .used) (edgeNumber k) false ≡ false
-      → Standing es g s fuel (stand (set (t .used) (edgeNumber k) true) (set (t .cursors) (t .node) k) (set (t .nodes) (t .depth) (t .node)) (set (t .bys) (t .depth) (t .by)) (t .depth + 1)
+      → Standing n es g s fuel (stand (set (t .used) (edgeNumber k) true) (set (t .cursors) (t .node) k) (set (t .nodes) (t .depth) (t .node)) (set (t .bys) (t .depth) (t .by)) (t .depth + 1)
       (getD (g .ends) (k - 1) 0) (edgeNumber k + 1) (t .place))
   push-stands fuel k t w lk c free =
       let i = edgeNumber k in
@@ -167,7 +159,7 @@ module _ (es : List Edge) (g : Adjacency) (s : ℕ) (few : length es ≤ 4001) (
             (sym (walk-along es marks (entryOf (t .node) (t .by)) fuel _ _ i v is) ∙ w .same);
         each = rw marks-now (omega (arith, w .each, count));
         place-in = w .place-in;
-        node-in = leads-in es marks (t .node) i v inside leads;
+        node-in = leads-in n es marks (t .node) i v inside leads;
         below-in = below;
         off-in = λ j l h. rw (getD-set-other (t .nodes) (t .depth) j (t .node) 0 (λ e. omega (arith, d-in, l, e))) (w .off-in j l h);
         used-long = simp length-set (w .used-long);
@@ -175,18 +167,18 @@ module _ (es : List Edge) (g : Adjacency) (s : ℕ) (few : length es ≤ 4001) (
         nodes-long = simp length-set (w .nodes-long);
         bys-long = simp length-set (w .bys-long);
         cursors-are = λ u h. rw marks-now (cursor-later g (edgesAt es u) marks u (set marks i true) _ (stays-set marks i)
-            (moved-are marks (t .cursors) (t .node) k (w .cursors-long) c (w .cursors-are) u h));
+            (moved-are marks (t .cursors) (t .node) k (w .node-in) (w .cursors-long) c (w .cursors-are) u h));
       }
     where
-      below : (j : ℕ) → j < t .depth + 1 → getD (set (t .nodes) (t .depth) (t .node)) j 0 < mostNodes
+      below : (j : ℕ) → j < t .depth + 1 → getD (set (t .nodes) (t .depth) (t .node)) j 0 < n
       below j h = elim (ℕ-discrete j (t .depth)) [
         | yes e ↦ rw (e, getD-set-same (t .nodes) (t .depth) (t .node) 0 (omega (arith, w .nodes-long, w .each, few))) (w .node-in)
-        | no n ↦ rw (getD-set-other (t .nodes) (t .depth) j (t .node) 0 n) (w .below-in j (omega (arith, h, n)))
+        | no d ↦ rw (getD-set-other (t .nodes) (t .depth) j (t .node) 0 d) (w .below-in j (omega (arith, h, d)))
       ]
 
   -- off the stack, where the node has no free arc left
-  pub pop-stands : (fuel : ℕ) (t : Stand) → Standing es g s (fuel + 1) t → 0 < t .depth → Cursor g (edgesAt es (t .node)) (marksOf es (t .used)) (t .node) 0
-      → Standing es g s fuel (stand (t .used) (set (t .cursors) (t .node) 0) (set (t .nodes) (t .place - 1) (t .node)) (set (t .bys) (t .place - 1) (t .by)) (t .depth - 1)
+  pub pop-stands : (fuel : ℕ) (t : Stand) → Standing n es g s (fuel + 1) t → 0 < t .depth → Cursor g (edgesAt es (t .node)) (marksOf es (t .used)) (t .node) 0
+      → Standing n es g s fuel (stand (t .used) (set (t .cursors) (t .node) 0) (set (t .nodes) (t .place - 1) (t .node)) (set (t .bys) (t .place - 1) (t .by)) (t .depth - 1)
       (getD (t .nodes) (t .depth - 1) 0) (getD (t .bys) (t .depth - 1) 0) (t .place - 1))
   pop-stands fuel t w ld c =
       let marks = marksOf es (t .used) in
@@ -211,30 +203,30 @@ module _ (es : List Edge) (g : Adjacency) (s : ℕ) (few : length es ≤ 4001) (
         cursors-long = simp length-set (w .cursors-long);
         nodes-long = simp length-set (w .nodes-long);
         bys-long = simp length-set (w .bys-long);
-        cursors-are = moved-are marks (t .cursors) (t .node) 0 (w .cursors-long) c (w .cursors-are);
+        cursors-are = moved-are marks (t .cursors) (t .node) 0 (w .node-in) (w .cursors-long) c (w .cursors-are);
       }
     where
-      off : t .place - 1 < length (t .nodes) → (j : ℕ) → t .place - 1 ≤ j → j < lineRoom → getD (set (t .nodes) (t .place - 1) (t .node)) j 0 < mostNodes
-      off = off-more (t .nodes) (t .node) (t .place) (w .node-in) (w .off-in)
+      off : t .place - 1 < length (t .nodes) → (j : ℕ) → t .place - 1 ≤ j → j < lineRoom → getD (set (t .nodes) (t .place - 1) (t .node)) j 0 < n
+      off = off-more n (t .nodes) (t .node) (t .place) (w .node-in) (w .off-in)
 
   -- where the node in hand is the only one, or the steps are used up, it is the first of the circuit
-  pub over-by : (fuel : ℕ) (t : Stand) → Standing es g s fuel t → t .depth ≡ 0 → Cursor g (edgesAt es (t .node)) (marksOf es (t .used)) (t .node) 0
+  pub over-by : (fuel : ℕ) (t : Stand) → Standing n es g s fuel t → t .depth ≡ 0 → Cursor g (edgesAt es (t .node)) (marksOf es (t .used)) (t .node) 0
       → entryOf (t .node) (t .by) ∷ entriesFrom (t .place) (t .nodes) (t .bys) ≡ circuit es s
   unfolding stackOf
   over-by fuel t w z c =
       sym (walk-over es (marksOf es (t .used)) (entryOf (t .node) (t .by)) fuel _ (cursor-none g (edgesAt es (t .node)) (marksOf es (t .used)) (t .node) c))
       ∙ ap (λ (d : ℕ). walk fuel es (marksOf es (t .used)) (entryOf (t .node) (t .by)) (stackOf d (t .nodes) (t .bys)) (entriesFrom (t .place) (t .nodes) (t .bys))) (sym z) ∙ w .same
 
-  pub out-by : (fuel : ℕ) (t : Stand) → Standing es g s fuel t → fuel ≤ 0 → entryOf (t .node) (t .by) ∷ entriesFrom (t .place) (t .nodes) (t .bys) ≡ circuit es s
+  pub out-by : (fuel : ℕ) (t : Stand) → Standing n es g s fuel t → fuel ≤ 0 → entryOf (t .node) (t .by) ∷ entriesFrom (t .place) (t .nodes) (t .bys) ≡ circuit es s
   out-by fuel t w z = sym (walk-out es (marksOf es (t .used)) (entryOf (t .node) (t .by)) fuel _ _ z) ∙ w .same
 
-  pub stands-within : (fuel m : ℕ) (t : Stand) → length es ≡ m → Standing es g s fuel t → Within m (t .nodes) (t .bys) (t .depth) (t .node) (t .place)
-  stands-within fuel m t e w = record {
+  pub stands-within : (fuel : ℕ) (t : Stand) → Standing n es g s fuel t → Within n (t .nodes) (t .bys) (t .depth) (t .node) (t .place)
+  stands-within fuel t w = record {
+    few = room;
     node-in = w .node-in;
     depth-in = omega (arith, w .each, few);
     place-some = omega (arith, w .each, few);
     place-in = w .place-in;
-    few = omega (arith, w .each, w .place-in);
     off-in = w .off-in;
     nodes-long = w .nodes-long;
     bys-long = w .bys-long;
@@ -262,30 +254,26 @@ first-arcs-more heads n arcs k h e f = record {
   ];
 }
 
-pub first-arcs-all : (heads : List ℕ) (n : ℕ) (arcs : List ℕ) → mostNodes ≤ n → FirstArcs heads n arcs → FirstArcs heads mostNodes arcs
-first-arcs-all heads n arcs h f = record { long = f .long; are = λ v l. f .are v (omega arith) }
-
-holds-follow : (es : List Edge) (g : Adjacency) (v : ℕ) → g ≡ lists es → length es ≤ 4001 → Ends es → v < mostNodes → Follows g v (firstArc (g .heads) v) (edgesAt es v)
-holds-follow es g v e few inside h = subst (λ (x : Adjacency). Follows x v (firstArc (x .heads) v) (edgesAt es v)) (sym e) (lists-follow es v few inside h)
+pub first-arcs-all : (heads : List ℕ) (n v : ℕ) (arcs : List ℕ) → n ≤ v → FirstArcs heads v arcs → FirstArcs heads n arcs
+first-arcs-all heads n v arcs h f = record { long = f .long; are = λ u l. f .are u (omega arith) }
 
 -- at the start
-pub start-stands : (es : List Edge) (ends nexts heads : List ℕ) (m : ℕ) (h : Holds es ends nexts heads m) (s : ℕ) (arcs nodes bys : List ℕ) → FirstArcs heads mostNodes arcs → s < mostNodes
-    → length nodes ≡ lineRoom → length bys ≡ lineRoom
-    → Standing es (adjacency ends (h .weights) nexts heads) s (2 * m + 1) (stand (replicate 4001 false) arcs nodes bys 0 s 0 lineRoom)
+pub start-stands : (n : ℕ) (es : List Edge) (g : Adjacency) (s : ℕ) (arcs nodes bys : List ℕ) → length es ≤ edgeRoom
+    → ((v : ℕ) → v < n → Follows g v (firstArc (g .heads) v) (edgesAt es v)) → FirstArcs (g .heads) n arcs → s < n → length nodes ≡ lineRoom → length bys ≡ lineRoom
+    → Standing n es g s (2 * length es + 1) (stand (replicate edgeRoom false) arcs nodes bys 0 s 0 lineRoom)
 unfolding circuit byOf stackOf entriesOf
-start-stands es ends nexts heads m h s arcs nodes bys f ls ln lb =
-    let few : length es ≤ 4001 = omega (arith, h .few, h .count) in
-    let none : marksOf es (replicate 4001 false) ≡ replicate (length es) false = take-replicate (length es) 4001 few in
+start-stands n es g s arcs nodes bys few follow f ls ln lb =
+    let none : marksOf es (replicate edgeRoom false) ≡ replicate (length es) false = take-replicate (length es) edgeRoom few in
     record {
-      same = rw (none, ← h .count);
+      same = rw none;
       each = rw none (omega (arith, freeSum-all (λ (j : ℕ) (e : Edge). 1) 0 es, all-unused es 0));
       place-in = omega arith;
       node-in = ls;
       below-in = λ j l. absurd (not-suc-le-zero l);
       off-in = λ j l k. absurd (omega (arith, l, k));
-      used-long = length-replicate {A = Bool} 4001 false;
+      used-long = length-replicate {A = Bool} edgeRoom false;
       cursors-long = f .long;
       nodes-long = ln;
       bys-long = lb;
-      cursors-are = λ v l. rw (f .are v l) (cursor-first _ (edgesAt es v) _ v _ (holds-follow es (adjacency ends (h .weights) nexts heads) v (h .is) few (h .ends-in) l));
+      cursors-are = λ v l. rw (f .are v l) (cursor-first _ (edgesAt es v) _ v _ (follow v l));
     }

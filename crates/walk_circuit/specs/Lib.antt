@@ -1,4 +1,3 @@
 -- The walk by cursors: where each node's list of edges is looked at next.
 pub mod Entries
-pub mod Standing
-pub mod Walks
+pub mod FirstArcs

@@ -2,65 +2,70 @@
 // arc of its list before which every edge is used.
 ghost use mathlib.Core.Path.{_≡_};
 ghost use Prim.Native.Nat.{_<_};
-ghost use lib.ListN.{length};
-ghost use Rattle.limits.specs.Limits.{mostNodes, lineRoom};
-ghost use Rattle.graph_adjacency.specs.Lists.{firstArc};
-ghost use Rattle.walk_circuit.specs.Standing.{FirstArcs};
-ghost use Rattle.walk_circuit.specs.Walks.{Some, Walked};
+ghost use Rattle.graph_adjacency.specs.Lists.{adjacency};
+ghost use Rattle.graph_arrays.specs.Arrays.{EdgesLinked, edgesIn};
+ghost use Rattle.walk_spec.specs.Walk as definition;
+ghost use Rattle.walk_circuit.specs.Entries.{EntriesIn, entriesFrom};
+ghost use Rattle.walk_circuit.specs.FirstArcs.{FirstArcs};
+use limits::ARC_ROOM;
 use limits::EDGE_ROOM;
+use limits::LINE_ROOM;
 use limits::MOST_NODES;
 
-// An entry by each edge, and the first one.
-pub const ENTRY_ROOM: usize = EDGE_ROOM + 1;
+// An arc, as the walk keeps it for each node.
+type Cursor = u16;
 
-// The first arc of a node; 0 where it has none.
-fn first_of(heads: &[u16; 2 * MOST_NODES], v: usize) -> u16
-    requires { ⌜ v < mostNodes ⌝ }
-    ensures { λ r. ⌜ r ≡ firstArc (now (heads .entry)) v ⌝ }
-{
-    let head = heads[v];
-    if head == 0 {
-        return heads[v + MOST_NODES];
-    }
-    head
-}
-
-// The first arc of each node.
-fn first_arcs(heads: &[u16; 2 * MOST_NODES]) -> [u16; MOST_NODES]
-    ensures { λ r. ⌜ FirstArcs (now (heads .entry)) mostNodes r ⌝ }
+// The first arc of each of the n nodes.
+fn first_arcs(
+    ends: &[u16; ARC_ROOM],
+    weights: &[f64; EDGE_ROOM],
+    next: &[u16; ARC_ROOM],
+    heads: &[u16; 2 * MOST_NODES],
+    n: usize,
+    m: usize,
+) -> [Cursor; MOST_NODES]
+    requires { ⌜ EdgesLinked n m (adjacency (now ends) (now weights) (now next) (now heads)) ⌝ }
+    ensures { λ r. ⌜ FirstArcs (now (heads .entry)) n r ⌝ }
 {
     let mut arcs = [0; MOST_NODES];
     let mut v = 0;
-    while v < MOST_NODES {
-        arcs[v] = first_of(heads, v);
+    while v < n {
+        arcs[v] = graph_adjacency::first_arc(heads, v) as Cursor;
         v += 1;
     }
     arcs
 }
 
-// The circuit from the node s over m edges. Its entries stand from the place that is the answer to the end of
-// the two arrays: the nodes, and how each was entered, 0 for the first and i + 1 by the edge i. The front of
-// the arrays is the stack of the walk, which never meets them.
+// The circuit from the node s over m edges between n nodes. Its entries stand from the place that is the
+// answer to the end of the two arrays: the nodes, and how each was entered, 0 for the first and i + 1 by the
+// edge i. The front of the arrays is the stack of the walk, which never meets them.
 pub fn circuit(
-    ends: &[u16; 2 * EDGE_ROOM],
-    next: &[u16; 2 * EDGE_ROOM],
+    ends: &[u16; ARC_ROOM],
+    weights: &[f64; EDGE_ROOM],
+    next: &[u16; ARC_ROOM],
     heads: &[u16; 2 * MOST_NODES],
+    n: usize,
     m: usize,
     s: usize,
-    nodes: &mut [u16; ENTRY_ROOM],
-    bys: &mut [u16; ENTRY_ROOM],
+    nodes: &mut [u16; LINE_ROOM],
+    bys: &mut [u16; LINE_ROOM],
 ) -> usize
-    requires start { ⌜ s < mostNodes ⌝ }
-    requires room { ⌜ (length (now nodes) ≡ lineRoom) × (length (now bys) ≡ lineRoom) ⌝ }
-    requires edges { ⌜ Some (now ends) (now next) (now heads) m ⌝ }
-    ensures { λ r. ⌜ Walked (now (ends .entry)) (now (next .entry)) (now (heads .entry)) m s r (now (nodes .exit)) (now (bys .exit)) ⌝ }
+    requires start { ⌜ s < n ⌝ }
+    requires edges { ⌜ EdgesLinked n m (adjacency (now ends) (now weights) (now next) (now heads)) ⌝ }
+    ensures { λ r. ⌜ entriesFrom r (now (nodes .exit)) (now (bys .exit)) ≡ definition.circuit (edgesIn m (adjacency (now (ends .entry)) (now (weights .entry)) (now (next .entry)) (now (heads .entry)))) s ⌝ }
+    ensures { λ r. ⌜ EntriesIn n r (now (nodes .exit)) ⌝ }
 {
+    // Behind a reference an array's length is not known until it is written whole.
+    *nodes = [0; LINE_ROOM];
+    *bys = [0; LINE_ROOM];
+    // Beside these two, 8,004 bytes each, the walk's state is 4,001 and 3,068 bytes.
     let mut used = [false; EDGE_ROOM];
-    let mut cursors = first_arcs(heads);
+    let mut cursors = first_arcs(ends, weights, next, heads, n, m);
     let mut depth: usize = 0;
     let mut node = s;
     let mut by: u16 = 0;
-    let mut place: usize = ENTRY_ROOM;
+    let mut place: usize = LINE_ROOM;
+    // Each edge is gone along once, and each entry taken off once.
     let mut fuel = 2 * m + 1;
     'walk: while 0 < fuel {
         fuel -= 1;
@@ -69,7 +74,7 @@ pub fn circuit(
             let i = graph_adjacency::edge_number(k);
             if !used[i] {
                 used[i] = true;
-                cursors[node] = k as u16;
+                cursors[node] = k as Cursor;
                 nodes[depth] = node as u16;
                 bys[depth] = by;
                 depth += 1;

@@ -7,6 +7,7 @@ use native.Mathlib.Omega.{arith}
 use lib.ListN.{length, getD, set, take, length-set}
 use lib.Seq.{take-suc-set, getD-take}
 use Rattle.limits.specs.Limits.{lineRoom}
+use Rattle.graph_arrays.specs.NodeList.{NodeList}
 use Rattle.walk_cut.specs.Copy.{Copy, Copying, placesOf}
 
 -- what the copy still gives is the same
@@ -52,11 +53,16 @@ places-below ns bound zero p s h j = s
 places-below ns bound (suc n) p s h zero = h p (omega arith) (omega arith)
 places-below ns bound (suc n) p s h (suc j) = places-below ns bound n (suc p) s (λ q k m. h q (omega arith) (omega arith)) j
 
-pub taken-below : (bound r : ℕ) (line l : List ℕ) → take r line ≡ l → 0 < bound → AllBelow bound l → (j : ℕ) → j < r → getD line j 0 < bound
-taken-below bound r line l e s b j h = rw (← getD-take r line j 0 h, e) (b j)
+-- a list of such nodes in the front of an array
+pub taken-nodes : (n r : ℕ) (line l : List ℕ) → take r line ≡ l → r ≤ lineRoom → length line ≡ lineRoom → 0 < n → AllBelow n l → NodeList n lineRoom line r
+taken-nodes n r line l e few long s b = record {
+  fits = few;
+  long = omega arith;
+  nodes-in = λ j h. rw (← getD-take r line j 0 h, e) (b j);
+}
 
 -- of a copy to an empty line
-pub copy-below : (ns : List ℕ) (p q bound : ℕ) (line : List ℕ) (r : ℕ) {line₀ : List ℕ} → Copy ns p q line₀ 0 line r → ((j : ℕ) → p ≤ j → j < q → getD ns j 0 < bound) → (j : ℕ) → j < r → getD line j 0 < bound
-copy-below ns p q bound line r c b j h =
-    let some : 0 < bound = omega (arith, b p (omega arith) (omega (arith, h, c .count))) in
-    taken-below bound r line _ (c .is) some (places-below ns bound (q - p) p some (λ i k m. b i k (omega (arith, k, m)))) j h
+pub copy-nodes : (ns : List ℕ) (p q n : ℕ) (line : List ℕ) (r : ℕ) {line₀ : List ℕ} → Copy ns p q line₀ 0 line r → q ≤ lineRoom → 0 < n
+    → ((j : ℕ) → p ≤ j → j < q → getD ns j 0 < n) → NodeList n lineRoom line r
+copy-nodes ns p q n line r c few some b =
+    taken-nodes n r line _ (c .is) (omega (arith, c .count)) (c .long) some (places-below ns n (q - p) p some (λ i k m. b i k (omega (arith, k, m))))

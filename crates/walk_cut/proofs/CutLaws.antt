@@ -7,15 +7,16 @@ use native.Mathlib.Nat.{zero-add, add-suc, suc-add}
 use native.Mathlib.Decide.{ℕ-discrete}
 use native.Mathlib.Numerals.{add-one}
 use native.Mathlib.Omega.{arith}
-use lib.ListN.{getD, drop}
+use lib.ListN.{getD, take, drop}
 use borrow.Author.Tests.{eq-eqb, ne-eqb}
 use Rattle.limits.specs.Limits.{lineRoom}
 use Rattle.walk_spec.specs.Walk.{Entry}
 use Rattle.walk_spec.specs.Line.{isBy, cutAt}
-use Rattle.walk_circuit.specs.Entries.{byOf, entryOf, entriesOf, entriesFrom}
+use Rattle.graph_arrays.specs.NodeList.{NodeList}
+use Rattle.walk_circuit.specs.Entries.{EntriesIn, byOf, entryOf, entriesOf, entriesFrom}
 use Rattle.walk_cut.specs.Copy.{placesOf, Copy}
-use Rattle.walk_cut.proofs.CopyLaws.{below-append, places-below, taken-below, copy-below}
-use Rattle.walk_cut.specs.Cut.{Cut, EnteredAt, cutLine, nodesOf}
+use Rattle.walk_cut.proofs.CopyLaws.{below-append, places-below, taken-nodes, copy-nodes}
+use Rattle.walk_cut.specs.Cut.{EnteredAt, cutLine, nodesOf}
 
 -- ---- the test
 
@@ -96,31 +97,32 @@ module _ (ns bs : List ℕ) where
         ∙ map-append (λ (t : Entry). t .node) (entriesOf n r ns bs) (entriesOf (r - (first + 1)) (first + 1) ns bs)
         ∙ rw (entries-nodes n r, entries-nodes (r - (first + 1)) (first + 1))
 
+-- ---- what the code copies
+
+entries-some : (n first : ℕ) (ns : List ℕ) → EntriesIn n first ns → 0 < n
+entries-some n first ns e = omega (arith, e .nodes-in first (omega arith) (e .some))
+
+pub whole-nodes : (first : ℕ) (ns line₀ line : List ℕ) (r : ℕ) → Copy ns first lineRoom line₀ 0 line r → (n : ℕ) → EntriesIn n first ns → NodeList n lineRoom line r
+whole-nodes first ns line₀ line r c n e = copy-nodes ns first lineRoom n line r c (omega arith) (entries-some n first ns e) (e .nodes-in)
+
 module _ (i first : ℕ) (ns bs line₀ : List ℕ) (p : ℕ) (f : EnteredAt bs first (i + 1) p) where
-  pub cut-whole : (line : List ℕ) (r : ℕ) → lineRoom ≤ p → Copy ns first lineRoom line₀ 0 line r → Cut i first ns bs r line
-  cut-whole line r h c = record {
-    is = c .is ∙ sym (cut-none ns bs i first p h f);
-    few = omega (arith, c .count);
-    nodes-in = λ bound b j l. copy-below ns first lineRoom bound line r c b j l;
-    long = c .long;
-  }
+  pub cut-whole : (line : List ℕ) (r : ℕ) → lineRoom ≤ p → Copy ns first lineRoom line₀ 0 line r → take r line ≡ cutLine i first ns bs
+  cut-whole line r h c = c .is ∙ sym (cut-none ns bs i first p h f)
 
-  pub cut-parts : (line line' : List ℕ) (n r : ℕ) → p < lineRoom → Copy ns p lineRoom line₀ 0 line n → Copy ns (first + 1) p line n line' r → Cut i first ns bs r line'
-  cut-parts line line' n r h c d = record {
-    is = d .is ∙ ap (λ (l : List ℕ). l ++ placesOf (p - (first + 1)) (first + 1) ns) (c .is) ∙ sym (cut-some ns bs i first p h f);
-    few = omega (arith, c .count, d .count, f .from);
-    nodes-in = λ bound b j l. parts bound b j l;
-    long = d .long;
-  }
-    where
-      some : (bound : ℕ) → ((j : ℕ) → first ≤ j → j < lineRoom → getD ns j 0 < bound) → 0 < bound
-      some bound b = omega (arith, b p (f .from) h)
+  module _ (line line' : List ℕ) (m r : ℕ) (h : p < lineRoom) (c : Copy ns p lineRoom line₀ 0 line m) (d : Copy ns (first + 1) p line m line' r) where
+    both : take r line' ≡ placesOf (lineRoom - p) p ns ++ placesOf (p - (first + 1)) (first + 1) ns
+    both = d .is ∙ ap (λ (l : List ℕ). l ++ placesOf (p - (first + 1)) (first + 1) ns) (c .is)
 
-      parts : (bound : ℕ) → ((j : ℕ) → first ≤ j → j < lineRoom → getD ns j 0 < bound) → (j : ℕ) → j < r → getD line' j 0 < bound
-      parts bound b j l =
-          taken-below bound r line' _ (d .is ∙ ap (λ (x : List ℕ). x ++ placesOf (p - (first + 1)) (first + 1) ns) (c .is)) (some bound b)
-          (below-append bound (placesOf (lineRoom - p) p ns) (placesOf (p - (first + 1)) (first + 1) ns) (places-below ns bound (lineRoom - p) p (some bound b) (λ q k m. b q (omega (arith, k, f .from)) (omega (arith, m, h))))
-          (places-below ns bound (p - (first + 1)) (first + 1) (some bound b) (λ q k m. b q (omega (arith, k)) (omega (arith, m, h, k))))) j l
+    pub cut-parts : take r line' ≡ cutLine i first ns bs
+    cut-parts = both ∙ sym (cut-some ns bs i first p h f)
+
+    pub parts-nodes : (n : ℕ) → EntriesIn n first ns → NodeList n lineRoom line' r
+    parts-nodes n e =
+        let some = entries-some n first ns e in
+        taken-nodes n r line' _ both (omega (arith, c .count, d .count, f .from)) (d .long) some
+        (below-append n (placesOf (lineRoom - p) p ns) (placesOf (p - (first + 1)) (first + 1) ns)
+        (places-below ns n (lineRoom - p) p some (λ q k m. e .nodes-in q (omega (arith, k, f .from)) (omega (arith, m, h))))
+        (places-below ns n (p - (first + 1)) (first + 1) some (λ q k m. e .nodes-in q (omega (arith, k)) (omega (arith, m, h, k)))))
 
 -- no place from `first` to before p was entered by b
 pub record Passed (bys : List ℕ) (first b p : ℕ) : Type 0 where

@@ -10,6 +10,10 @@ unfoldable pub placesOf : ℕ → ℕ → List ℕ → List ℕ
 placesOf zero p ns = []
 placesOf (suc n) p ns = getD ns p 0 ∷ placesOf n (suc p) ns
 
+-- the nodes from the place p to the end
+abbrev pub nodesFrom : ℕ → List ℕ → List ℕ
+nodesFrom p ns = placesOf (lineRoom - p) p ns
+
 -- A line of n nodes, and the places of ns from p to before q that are to come behind them.
 abbrev pub Copying : List ℕ → ℕ → ℕ → List ℕ → ℕ → List ℕ
 Copying ns p q line n = take n line ++ placesOf (q - p) p ns

@@ -2,7 +2,7 @@
 use mathlib.Core.Path.{_≡_}
 use mathlib.Core.List.{List, [], map}
 use Prim.Native.Nat.{ℕ, _-_, _≤_, _<_}
-use lib.ListN.{length, getD, take}
+use lib.ListN.{getD}
 use Rattle.limits.specs.Limits.{lineRoom}
 use Rattle.walk_spec.specs.Walk.{Entry}
 use Rattle.walk_spec.specs.Line.{cutAt}
@@ -21,10 +21,3 @@ nodesOf ts = map (λ (t : Entry). t .node) ts
 -- the line, as the definition has it
 abbrev pub cutLine : ℕ → ℕ → List ℕ → List ℕ → List ℕ
 cutLine i first ns bs = nodesOf (cutAt i [] (entriesFrom first ns bs))
-
--- The line has r nodes, the circuit's without the step that is cut.
-pub record Cut (i first : ℕ) (ns bs : List ℕ) (r : ℕ) (line : List ℕ) : Type 0 where
-  pub is : take r line ≡ cutLine i first ns bs
-  pub few : r ≤ lineRoom - first
-  pub nodes-in : (bound : ℕ) → ((j : ℕ) → first ≤ j → j < lineRoom → getD ns j 0 < bound) → (j : ℕ) → j < r → getD line j 0 < bound
-  pub long : length line ≡ lineRoom

@@ -1,3 +1,3 @@
 -- Laws of the definitions in specs/.
-pub mod BestLaws
+pub mod Chosen
 pub mod Listed

@@ -1,2 +1,2 @@
 -- Where the walk starts.
-pub mod Best
+pub mod Better

@@ -1,4 +1,4 @@
--- `circuit::circuit` meets its contract. At the outer loop's head, what is left of the walk from here gives the circuit; in the inner loop, besides, `k` is the cursor of the node in hand.
+-- `walk_circuit::circuit` meets its contract. At the outer loop's head, what is left of the walk from here gives the circuit; in the inner loop, besides, `k` is the cursor of the node in hand.
 -- The measures are the steps left, and `k`, since the arcs of a node fall. Assumes nothing.
 use Prim.Native.Nat.{_+_, _-_}
 use mathlib.Core.Logic.{⊎-elim}
@@ -6,40 +6,44 @@ use native.Mathlib.Omega.{arith}
 use borrow.Author.Needs.{needs}
 use borrow.Author.Tests.{not-true, not-false}
 use Rattle.walk_circuit.proofs.Standing.{Within, stand}
-use Rattle.walk_circuit.specs.Walks.{Some}
-use Rattle.walk_circuit.proofs.Walks.{Walks, Looks, Over, ArcIn, looks-arc, walks-within, walks-less, walks-look, pass-looks, push-walks, pop-walks, over-walks, out-walks, over-put, start-walks}
+use Rattle.graph_adjacency.specs.Lists.{Adjacency, adjacency}
+use Rattle.graph_arrays.specs.Arrays.{EdgesLinked}
+use Rattle.walk_circuit.proofs.Walks.{Walks, Looks, Over, ArcIn, looks-arc, walks-within, walks-less, walks-look, pass-looks, push-walks, pop-walks, over-walks, out-walks, over-put, put-in, start-walks}
 use Rattle.walk_circuit.proofs.circuit.Statement.{statement}
 use Rattle.walk_circuit.proofs.circuit.Tie as tie
 
 abbrev Inv-loop : tie.InvT-loop
-Inv-loop ends next heads m s nodes₀ bys₀ used₀ cursors₀ depth₀ node₀ by₀ place fuel k₀ nodes bys used cursors depth node by k =
-    Within m nodes bys depth node place × Walks ends next heads m s (fuel + 1) (stand used cursors nodes bys depth node by place) × Looks ends next heads m k (stand used cursors nodes bys depth node by place)
+Inv-loop ends weights next heads n m s nodes₀ bys₀ used₀ cursors₀ depth₀ node₀ by₀ place fuel k₀ nodes bys used cursors depth node by k =
+    Within n nodes bys depth node place × Walks n m (adjacency ends weights next heads) s (fuel + 1) (stand used cursors nodes bys depth node by place) × Looks n m (adjacency ends weights next heads) k (stand used cursors nodes bys depth node by place)
 
 abbrev μ-loop : tie.MeasureT-loop
-μ-loop ends next heads m s nodes₀ bys₀ used₀ cursors₀ depth₀ node₀ by₀ place fuel k₀ nodes bys used cursors depth node by k =
+μ-loop ends weights next heads n m s nodes₀ bys₀ used₀ cursors₀ depth₀ node₀ by₀ place fuel k₀ nodes bys used cursors depth node by k =
     k
 
 abbrev Inv-walk : tie.InvT-walk
-Inv-walk ends next heads m s nodes₀ bys₀ used₀ cursors₀ depth₀ node₀ by₀ place₀ fuel₀ nodes bys used cursors depth node by place fuel =
-    Within m nodes bys depth node place × Walks ends next heads m s fuel (stand used cursors nodes bys depth node by place)
+Inv-walk ends weights next heads n m s nodes₀ bys₀ used₀ cursors₀ depth₀ node₀ by₀ place₀ fuel₀ nodes bys used cursors depth node by place fuel =
+    Within n nodes bys depth node place × Walks n m (adjacency ends weights next heads) s fuel (stand used cursors nodes bys depth node by place)
 
 abbrev μ-walk : tie.MeasureT-walk
-μ-walk ends next heads m s nodes₀ bys₀ used₀ cursors₀ depth₀ node₀ by₀ place₀ fuel₀ nodes bys used cursors depth node by place fuel =
+μ-walk ends weights next heads n m s nodes₀ bys₀ used₀ cursors₀ depth₀ node₀ by₀ place₀ fuel₀ nodes bys used cursors depth node by place fuel =
     fuel
 
--- there are such edges
-some : (c : tie.Start Inv-loop μ-loop Inv-walk μ-walk) → Some (c .args .ends .now) (c .args .next .now) (c .args .heads .now) (c .args .m)
-some c = c .pre .1 .1
+-- what the arrays hold
+abbrev arrays : tie.After-bys Inv-loop μ-loop Inv-walk μ-walk → Adjacency
+arrays c = adjacency (c .before .before .args .ends .now) (c .before .before .args .weights .now) (c .before .before .args .next .now) (c .before .before .args .heads .now)
+
+linked : (c : tie.After-bys Inv-loop μ-loop Inv-walk μ-walk) → EdgesLinked (c .before .before .args .n) (c .before .before .args .m) (arrays c)
+linked c = c .before .before .pre .1
 
 -- the arc that is looked at
-arc : (c : tie.In-loop Inv-loop μ-loop Inv-walk μ-walk) → ArcIn (c .before .before .before .before .before .before .args .ends .now) (c .before .before .before .before .before .before .args .next .now) (c .before .before .before .before .before .before .args .heads .now) (c .before .before .before .before .before .before .args .m) (c .before .loop .node) (c .before .loop .k)
-arc c = looks-arc _ _ _ _ (some (c .before .before .before .before .before .before)) _ (stand (c .before .loop .used) (c .before .loop .cursors) (c .before .loop .nodes) (c .before .loop .bys) (c .before .loop .depth) (c .before .loop .node) (c .before .loop .by) (c .before .before .before .before .walk .place)) (c .loop-test .taken) (c .before .loop .inv .2)
+arc : (c : tie.In-loop Inv-loop μ-loop Inv-walk μ-walk) → ArcIn (arrays (c .before .before .before .before .before .before)) (c .before .loop .node) (c .before .loop .k)
+arc c = looks-arc _ _ _ (linked (c .before .before .before .before .before .before)) _ (stand (c .before .loop .used) (c .before .loop .cursors) (c .before .loop .nodes) (c .before .loop .bys) (c .before .loop .depth) (c .before .loop .node) (c .before .loop .by) (c .before .before .before .before .walk .place)) (c .loop-test .taken) (c .before .loop .inv .2)
 
 -- both ways out of the walk
-over : (c : tie.Left-walk Inv-loop μ-loop Inv-walk μ-walk) → Within (c .before .before .before .args .m) (c .walk-test .nodes) (c .walk-test .bys) (c .walk-test .depth) (c .walk-test .node) (c .before .walk .place) × Over (c .before .before .before .args .ends .now) (c .before .before .before .args .next .now) (c .before .before .before .args .heads .now) (c .before .before .before .args .m) (c .before .before .before .args .s) (c .walk-test .nodes) (c .walk-test .bys) (c .walk-test .node) (c .walk-test .by) (c .before .walk .place)
+over : (c : tie.Left-walk Inv-loop μ-loop Inv-walk μ-walk) → Within (c .before .before .before .before .before .args .n) (c .walk-test .nodes) (c .walk-test .bys) (c .walk-test .depth) (c .walk-test .node) (c .before .walk .place) × Over (c .before .before .before .before .before .args .n) (c .before .before .before .before .before .args .m) (arrays (c .before .before .before)) (c .before .before .before .before .before .args .s) (c .walk-test .nodes) (c .walk-test .bys) (c .walk-test .node) (c .walk-test .by) (c .before .walk .place)
 over c = ⊎-elim
-    (λ w. rw (w .1, w .2, w .3, w .4, w .5) (c .before .walk .inv .0, out-walks _ _ _ _ _ _ (stand (c .before .walk .used) (c .before .walk .cursors) (c .before .walk .nodes) (c .before .walk .bys) (c .before .walk .depth) (c .before .walk .node) (c .before .walk .by) (c .before .walk .place)) (w .0 .left) (c .before .walk .inv .1)))
-    (λ w. rw (w .5, w .6, w .7, w .8, w .9) (w .2 .inv .0, over-walks _ _ _ _ _ _ _ (stand (w .2 .used) (w .2 .cursors) (w .2 .nodes) (w .2 .bys) (w .2 .depth) (w .2 .node) (w .2 .by) (c .before .walk .place)) (w .3 .left) (w .4 .taken) (w .2 .inv .1) (w .2 .inv .2)))
+    (λ w. rw (w .1, w .2, w .3, w .4, w .5) (c .before .walk .inv .0, out-walks _ _ _ (linked (c .before .before .before)) _ _ (stand (c .before .walk .used) (c .before .walk .cursors) (c .before .walk .nodes) (c .before .walk .bys) (c .before .walk .depth) (c .before .walk .node) (c .before .walk .by) (c .before .walk .place)) (w .0 .left) (c .before .walk .inv .1)))
+    (λ w. rw (w .5, w .6, w .7, w .8, w .9) (w .2 .inv .0, over-walks _ _ _ (linked (c .before .before .before)) _ _ _ (stand (w .2 .used) (w .2 .cursors) (w .2 .nodes) (w .2 .bys) (w .2 .depth) (w .2 .node) (w .2 .by) (c .before .walk .place)) (w .3 .left) (w .4 .taken) (w .2 .inv .1) (w .2 .inv .2)))
     (c .walk-test .came)
 
 first-arcs-requires : tie.Need-first-arcs-requires Inv-loop μ-loop Inv-walk μ-walk
@@ -53,8 +57,8 @@ add-fuel c = search needs
 
 walk-holds : tie.Need-walk-holds Inv-loop μ-loop Inv-walk μ-walk
 walk-holds c =
-    let w = start-walks _ _ _ _ _ _ _ _ (c .first-arcs .ensures) (c .before .pre .0) (c .before .pre .1 .0 .0) (c .before .pre .1 .0 .1) in
-    (walks-within _ _ _ _ _ _ (some (c .before)) _ w, w)
+    let w = start-walks _ _ _ (linked (c .before)) _ _ (c .first-arcs .ensures) (c .before .before .before .pre .0) in
+    (walks-within _ _ _ (linked (c .before)) _ _ _ w, w)
 
 sub-fuel : tie.Need-sub-fuel Inv-loop μ-loop Inv-walk μ-walk
 sub-fuel c = search needs
@@ -71,7 +75,7 @@ wide-requires c κs = search needs
 loop-holds : tie.Need-loop-holds Inv-loop μ-loop Inv-walk μ-walk
 loop-holds c =
     let t = stand (c .before .before .walk .used) (c .before .before .walk .cursors) (c .before .before .walk .nodes) (c .before .before .walk .bys) (c .before .before .walk .depth) (c .before .before .walk .node) (c .before .before .walk .by) (c .before .before .walk .place) in
-    (c .before .before .walk .inv .0, walks-less _ _ _ _ _ _ t (c .before .walk-test .taken) (c .before .before .walk .inv .1), walks-look _ _ _ _ _ _ _ t (c .before .before .walk .inv .0) (c .before .before .walk .inv .1) (c .wide .ensures))
+    (c .before .before .walk .inv .0, walks-less _ _ _ (linked (c .before .before .before .before)) _ _ t (c .before .walk-test .taken) (c .before .before .walk .inv .1), walks-look _ _ _ (linked (c .before .before .before .before)) _ _ _ t (c .before .before .walk .inv .1) (c .wide .ensures))
 
 edge-number-requires : tie.Need-edge-number-requires Inv-loop μ-loop Inv-walk μ-walk
 edge-number-requires c κs = search needs
@@ -134,8 +138,8 @@ walk-again : tie.Need-walk-again Inv-loop μ-loop Inv-walk μ-walk
 walk-again c =
     let a = c .before .before .before .before .before in
     let t = stand (a .loop .used) (a .loop .cursors) (a .loop .nodes) (a .loop .bys) (a .loop .depth) (a .loop .node) (a .loop .by) (a .before .before .before .walk .place) in
-    let w = push-walks _ _ _ _ _ _ _ _ _ t (c .before .before .before .before .loop-test .taken) (c .before .before .before .edge-number .ensures) (c .wide2 .ensures) (a .loop .inv .1) (a .loop .inv .2) (not-true _ (c .before .before .if1 .taken)) in
-    (walks-within _ _ _ _ _ _ (some (a .before .before .before .before .before)) _ w, w)
+    let w = push-walks _ _ _ (linked (a .before .before .before .before .before)) _ _ _ _ _ t (c .before .before .before .before .loop-test .taken) (c .before .before .before .edge-number .ensures) (c .wide2 .ensures) (a .loop .inv .1) (a .loop .inv .2) (not-true _ (c .before .before .if1 .taken)) in
+    (walks-within _ _ _ (linked (a .before .before .before .before .before)) _ _ _ w, w)
 
 next-arc-requires : tie.Need-next-arc-requires Inv-loop μ-loop Inv-walk μ-walk
 next-arc-requires c κs = (search needs, arc (c .before .before) .within, search needs)
@@ -147,7 +151,7 @@ loop-again : tie.Need-loop-again Inv-loop μ-loop Inv-walk μ-walk
 loop-again c =
     let a = c .before .before .before .before in
     let t = stand (a .loop .used) (a .loop .cursors) (a .loop .nodes) (a .loop .bys) (a .loop .depth) (a .loop .node) (a .loop .by) (a .before .before .before .walk .place) in
-    (a .loop .inv .0, a .loop .inv .1, pass-looks _ _ _ _ _ _ _ _ _ t (c .before .before .before .loop-test .taken) (c .before .before .edge-number .ensures) (c .next-arc .ensures) (a .loop .inv .1) (a .loop .inv .2) (not-false _ (c .before .if1 .left)))
+    (a .loop .inv .0, a .loop .inv .1, pass-looks _ _ _ (linked (a .before .before .before .before .before)) _ _ _ _ _ t (c .before .before .before .loop-test .taken) (c .before .before .edge-number .ensures) (c .next-arc .ensures) (a .loop .inv .1) (a .loop .inv .2) (not-false _ (c .before .if1 .left)))
 
 mul-cursors-2 : tie.Need-mul-cursors-2 Inv-loop μ-loop Inv-walk μ-walk
 mul-cursors-2 c = search needs
@@ -199,8 +203,8 @@ walk-again-2 c =
     let b = c .before .before .before .before in
     let a = b .before in
     let t = stand (a .loop .used) (a .loop .cursors) (a .loop .nodes) (a .loop .bys) (a .loop .depth) (a .loop .node) (a .loop .by) (a .before .before .before .walk .place) in
-    let w = pop-walks _ _ _ _ _ _ _ _ t (b .loop-test .left) (c .before .before .before .if2 .left) (c .before .wide3 .ensures) (a .loop .inv .1) (a .loop .inv .2) in
-    (walks-within _ _ _ _ _ _ (some (a .before .before .before .before .before)) _ w, w)
+    let w = pop-walks _ _ _ (linked (a .before .before .before .before .before)) _ _ _ _ t (b .loop-test .left) (c .before .before .before .if2 .left) (c .before .wide3 .ensures) (a .loop .inv .1) (a .loop .inv .2) in
+    (walks-within _ _ _ (linked (a .before .before .before .before .before)) _ _ _ w, w)
 
 sub-place-2 : tie.Need-sub-place-2 Inv-loop μ-loop Inv-walk μ-walk
 sub-place-2 c = omega (arith, over c .0 .place-some)
@@ -221,7 +225,7 @@ element-write-bys-3 : tie.Need-element-write-bys-3 Inv-loop μ-loop Inv-walk μ-
 element-write-bys-3 c = search needs
 
 returns : tie.Need-returns Inv-loop μ-loop Inv-walk μ-walk
-returns c = over-put _ _ _ _ _ _ _ _ _ _ _ (over c .0) (over c .1)
+returns c = (over-put _ _ _ _ _ _ _ (over c .0) _ (arrays (c .before .before .before)) _ (over c .1), put-in _ _ _ _ _ (c .walk-test .by) _ (over c .0))
 
 pub circuit-spec : {M : Type 1} → statement M
 circuit-spec =

@@ -1,4 +1,4 @@
--- `cut::copy` meets its contract: the nodes copied, and those still to come behind them, stay the same. Assumes nothing.
+-- `walk_cut::copy` meets its contract: the nodes copied, and those still to come behind them, stay the same. Assumes nothing.
 use Rattle.walk_cut.proofs.CopyLaws.{Copied, copied-none, copied-more, copied-all}
 use Prim.Native.Nat.{_-_}
 use native.Mathlib.Omega.{arith}

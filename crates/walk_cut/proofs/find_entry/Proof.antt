@@ -1,7 +1,8 @@
--- `cut::find_entry` meets its contract. Assumes nothing.
+-- `walk_cut::find_entry` meets its contract. Assumes nothing.
 use Rattle.walk_cut.proofs.CutLaws.{Passed, passed-none, passed-more, passed-found, passed-all}
 use Prim.Native.Nat.{_-_}
 use mathlib.Core.Path.{sym, _∙_}
+use Rattle.limits.specs.Limits.{lineRoom}
 use borrow.Author.Needs.{needs}
 use Rattle.walk_cut.proofs.find_entry.Statement.{statement}
 use Rattle.walk_cut.proofs.find_entry.Tie as tie
@@ -10,7 +11,7 @@ abbrev Inv-loop : tie.InvT-loop
 Inv-loop bys first b p₀ p = Passed bys first b p
 
 abbrev μ-loop : tie.MeasureT-loop
-μ-loop bys first b p₀ p = 4002 - p
+μ-loop bys first b p₀ p = lineRoom - p
 
 loop-holds : tie.Need-loop-holds Inv-loop μ-loop
 loop-holds c = passed-none _ _ _ (c .pre)

@@ -1,19 +1,21 @@
--- `start::best` meets its contract. The invariant: the best so far, with the candidates that are left, gives the best of all. Assumes nothing.
+-- `walk_start::best` meets its contract. The invariant: the best so far, with the candidates that are left, gives the best of all. Assumes nothing.
 use Prim.Native.Nat.{_-_}
 use native.Mathlib.Omega.{arith}
-use Rattle.walk_start.proofs.BestLaws.{Chosen, chosen-none, chosen-first, chosen-next, chosen-all}
+use Rattle.file_records.specs.Meaning.{settingsOf}
+use Rattle.graph_arrays.specs.Arrays.{nodesIn}
+use Rattle.walk_start.proofs.Chosen.{Chosen, chosen-none, chosen-first, chosen-next, chosen-all}
 use borrow.Author.Needs.{needs}
 use Rattle.walk_start.proofs.best.Statement.{statement}
 use Rattle.walk_start.proofs.best.Tie as tie
 
 abbrev Inv-loop : tie.InvT-loop
-Inv-loop xs ys width height inner nodes count v₀ i₀ v i = Chosen width height inner xs ys nodes count i v
+Inv-loop xs ys n settings nodes count v₀ i₀ v i = Chosen (settingsOf settings) (nodesIn n xs ys) n nodes count i v
 
 abbrev μ-loop : tie.MeasureT-loop
-μ-loop xs ys width height inner nodes count v₀ i₀ v i = count - i
+μ-loop xs ys n settings nodes count v₀ i₀ v i = count - i
 
 returns : tie.Need-returns Inv-loop μ-loop
-returns c = chosen-none _ _ _ _ _ _ _ (c .before .pre .1) (c .if1 .taken)
+returns c = (chosen-none (settingsOf (c .before .args .settings)) (nodesIn (c .before .args .n) (c .before .args .xs .now) (c .before .args .ys .now)) _ _ _ (c .before .pre .1 .1 .1) (c .if1 .taken), c .before .pre .1 .0)
 
 element-copy-out-wide : tie.Need-element-copy-out-wide Inv-loop μ-loop
 element-copy-out-wide c = search needs
@@ -22,7 +24,7 @@ wide-requires : tie.Need-wide-requires Inv-loop μ-loop
 wide-requires c κs = search needs
 
 loop-holds : tie.Need-loop-holds Inv-loop μ-loop
-loop-holds c = chosen-first _ _ _ _ _ _ _ (c .before .before .before .pre .1) _ (omega arith) (c .wide .ensures)
+loop-holds c = chosen-first (settingsOf (c .before .before .before .args .settings)) (nodesIn (c .before .before .before .args .n) (c .before .before .before .args .xs .now) (c .before .before .before .args .ys .now)) _ _ _ (c .before .before .before .pre .1 .1 .1) _ (omega arith) (c .wide .ensures)
 
 mul-wide : tie.Need-mul-wide Inv-loop μ-loop
 mul-wide c = search needs
@@ -34,7 +36,9 @@ wide-requires-2 : tie.Need-wide-requires-2 Inv-loop μ-loop
 wide-requires-2 c κs = search needs
 
 better-of-requires : tie.Need-better-of-requires Inv-loop μ-loop
-better-of-requires c κs = ((c .before .before .before .loop .inv .node-in, omega (arith, c .wide2 .ensures, c .before .before .before .before .before .before .before .pre .1 .nodes-in _ (c .before .before .loop-test .taken))), c .before .before .before .before .before .before .before .pre .0)
+better-of-requires c κs =
+    let b = c .before .before .before .before .before .before .before in
+    (b .pre .0, ((c .before .before .before .loop .inv .node-in, omega (arith, c .wide2 .ensures, b .pre .1 .1 .1 .nodes-in _ (c .before .before .loop-test .taken))), b .pre .1 .1 .0))
 
 add-i : tie.Need-add-i Inv-loop μ-loop
 add-i c = search needs
@@ -43,10 +47,10 @@ loop-less : tie.Need-loop-less Inv-loop μ-loop
 loop-less c = search needs
 
 loop-again : tie.Need-loop-again Inv-loop μ-loop
-loop-again c = chosen-next _ _ _ _ _ _ _ (c .before .before .before .before .before .before .before .before .pre .1) _ _ _ _ (c .before .before .before .loop-test .taken) (c .before .wide2 .ensures) (c .better-of .ensures) (c .before .before .before .before .loop .inv)
+loop-again c = chosen-next (settingsOf (c .before .before .before .before .before .before .before .before .args .settings)) (nodesIn (c .before .before .before .before .before .before .before .before .args .n) (c .before .before .before .before .before .before .before .before .args .xs .now) (c .before .before .before .before .before .before .before .before .args .ys .now)) _ _ _ (c .before .before .before .before .before .before .before .before .pre .1 .1 .1) _ _ _ _ (c .before .before .before .loop-test .taken) (c .before .wide2 .ensures) (c .better-of .ensures .0) (c .better-of .ensures .1) (c .before .before .before .before .loop .inv)
 
 returns-2 : tie.Need-returns-2 Inv-loop μ-loop
-returns-2 c = chosen-all _ _ _ _ _ _ _ (c .before .before .before .before .before .pre .1) _ _ (c .loop-test .left) (c .before .loop .inv)
+returns-2 c = (chosen-all (settingsOf (c .before .before .before .before .before .args .settings)) (nodesIn (c .before .before .before .before .before .args .n) (c .before .before .before .before .before .args .xs .now) (c .before .before .before .before .before .args .ys .now)) _ _ _ (c .before .before .before .before .before .pre .1 .1 .1) _ _ (c .loop-test .left) (c .before .loop .inv), c .before .loop .inv .node-in)
 
 pub best-spec : {M : Type 1} → statement M
 best-spec =

@@ -1,24 +1,30 @@
--- `start::nodes_with_edges` meets its contract. The invariant: the nodes with edges that are left, listed behind those that are listed, give the list of all. Assumes nothing.
+-- `walk_start::nodes_with_edges` meets its contract. The invariant: the nodes with edges that are left, listed behind those that are listed, give the list of all. Assumes nothing.
 use mathlib.Core.Path.{sym, _∙_}
 use mathlib.Core.Logic.{⊎-elim}
-use mathlib.Core.List.{List}
-use Prim.Native.Nat.{ℕ, _-_, _≤_}
+use Prim.Native.Nat.{_-_, _≤_}
 use native.Mathlib.Omega.{arith}
-use Rattle.graph_spec.specs.Graph.{Edge}
-use Rattle.walk_circuit.specs.Standing.{Holds}
-use Rattle.walk_start.proofs.Listed.{arc-some, arc-none, Listing, listing-start, listing-some, listing-none, listing-end}
+use Rattle.limits.specs.Limits.{mostNodes}
+use Rattle.graph_adjacency.specs.Lists.{Adjacency, adjacency}
+use Rattle.graph_arrays.specs.Arrays.{edgesIn}
+use Rattle.graph_arrays.proofs.Listing.{Listing, listing-start, listing-one, listing-none, listing-end}
+use Rattle.walk_spec.specs.Line.{withEdges}
+use Rattle.walk_start.proofs.Listed.{arc-some, arc-none, with-nil, with-few, left-some, left-none}
 use borrow.Author.Needs.{needs}
 use Rattle.walk_start.proofs.nodes_with_edges.Statement.{statement}
 use Rattle.walk_start.proofs.nodes_with_edges.Tie as tie
 
 abbrev Inv-loop : tie.InvT-loop
-Inv-loop heads nodes₀ n count₀ v₀ nodes count v = (v ≤ n) × (count ≤ v) × ((es : List Edge) (ends nexts : List ℕ) (m : ℕ) → Holds es ends nexts heads m → Listing es n v nodes₀ nodes count)
+Inv-loop ends weights next heads n m nodes₀ count₀ v₀ nodes count v =
+    (v ≤ n) × (count ≤ v) × Listing (withEdges (edgesIn m (adjacency ends weights next heads))) mostNodes n v nodes count
 
 abbrev μ-loop : tie.MeasureT-loop
-μ-loop heads nodes₀ n count₀ v₀ nodes count v = n - v
+μ-loop ends weights next heads n m nodes₀ count₀ v₀ nodes count v = n - v
+
+abbrev arrays : tie.Start Inv-loop μ-loop → Adjacency
+arrays c = adjacency (c .args .ends .now) (c .args .weights .now) (c .args .next .now) (c .args .heads .now)
 
 loop-holds : tie.Need-loop-holds Inv-loop μ-loop
-loop-holds c = (omega arith, omega arith, λ es ends nexts m h. listing-start es _ _)
+loop-holds c = (omega arith, omega arith, listing-start _ _ _)
 
 first-arc-requires : tie.Need-first-arc-requires Inv-loop μ-loop
 first-arc-requires c κs = search needs
@@ -43,13 +49,16 @@ loop-less c = search needs
 
 loop-again : tie.Need-loop-again Inv-loop μ-loop
 loop-again c =
+    let e = edgesIn (c .before .before .before .before .before .args .m) (arrays (c .before .before .before .before .before)) in
     ⊎-elim
-    (λ w. (omega arith, omega (arith, w .2), λ es ends nexts m h. listing-some es _ _ (c .before .before .loop-test .taken) _ _ _ _ _ (w .1) (w .2) (arc-some es ends nexts _ m h _ (omega (arith, c .before .before .loop-test .taken, c .before .before .before .before .pre)) (λ z. w .0 .taken (c .before .first-arc .ensures ∙ z))) (c .before .before .before .loop .inv .2 es ends nexts m h)))
-    (λ w. (omega arith, omega (arith, w .2), λ es ends nexts m h. listing-none es _ _ (c .before .before .loop-test .taken) _ _ _ _ _ (w .1) (w .2) (arc-none es ends nexts _ m h _ (omega (arith, c .before .before .loop-test .taken, c .before .before .before .before .pre)) (sym (c .before .first-arc .ensures) ∙ w .0 .left)) (c .before .before .before .loop .inv .2 es ends nexts m h)))
+    (λ w. (omega arith, omega (arith, w .2), listing-one _ _ _ _ _ _ _ _ (c .before .before .before .loop .inv .2) (w .1) (w .2) (left-some e _ _ (c .before .before .loop-test .taken) (arc-some _ _ (arrays (c .before .before .before .before .before)) (c .before .before .before .before .before .pre) _ (c .before .before .loop-test .taken) (λ z. w .0 .taken (c .before .first-arc .ensures ∙ z))))))
+    (λ w. (omega arith, omega (arith, w .2), listing-none _ _ _ _ _ _ _ _ (c .before .before .before .loop .inv .2) (w .1) (w .2) (left-none e _ _ (c .before .before .loop-test .taken) (arc-none _ _ (arrays (c .before .before .before .before .before)) (c .before .before .before .before .before .pre) _ (c .before .before .loop-test .taken) (sym (c .before .first-arc .ensures) ∙ w .0 .left)))))
     (c .if1 .came)
 
 returns : tie.Need-returns Inv-loop μ-loop
-returns c = λ es ends nexts m h. listing-end es _ _ _ _ _ (c .loop-test .left) (c .before .loop .inv .2 es ends nexts m h)
+returns c =
+    let e = edgesIn (c .before .before .before .args .m) (arrays (c .before .before .before)) in
+    listing-end (withEdges e) mostNodes _ _ _ _ (c .loop-test .left) (with-nil e _) (omega (arith, c .before .before .before .pre .few-nodes, with-few e (c .before .before .before .args .n))) (c .before .loop .inv .2)
 
 pub nodes-with-edges-spec : {M : Type 1} → statement M
 nodes-with-edges-spec =
