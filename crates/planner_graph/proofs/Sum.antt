@@ -8,7 +8,7 @@ use lib.Dec.{eqb, leb}
 use lib.Ieee.{binary64}
 use Rattle.sums.specs.Key.{Nonneg}
 use Rattle.sums.proofs.Sum.{add-nonneg, zero-nonneg}
-use Rattle.limits.specs.Limits.{mostEdges}
+use Rattle.limits.specs.Limits.{refusedPath}
 use Rattle.drawing_spec.specs.Drawing.{Settings, closing}
 use Rattle.drawing_spec.proofs.Members.{either}
 use Rattle.graph_spec.specs.Graph.{Graph}
@@ -28,13 +28,13 @@ path-sum n s t l path e G p =
     let a = shortest-along n (l .edges) s t path e in
     subst (λ (q : List ℕ). Nonneg binary64 (layPath q l .sum)) (sym (a .1)) (lay-nonneg s (a .0) l t (a .2) (G .weights) p)
 
-module _ (n : ℕ) where
+module _ (most number n : ℕ) where
   -- what is left can be searched, and its sum is a length
   abbrev Summed : Repairing → Type 0
   Summed (stopped k) = Unit
   Summed (repaired r) = Searchable n (r .edges) × Nonneg binary64 (r .sum)
 
-  apply-summed : (ps : List Pair) (r : Repair) → Searchable n (r .edges) → Nonneg binary64 (r .sum) → Summed (applyMatching n ps r)
+  apply-summed : (ps : List Pair) (r : Repair) → Searchable n (r .edges) → Nonneg binary64 (r .sum) → Summed (applyMatching most number n ps r)
   unfolding applyMatching
   apply-summed [] r G p = (G, p)
   apply-summed (q ∷ ps) r G p = go (shortestPath n (r .edges) (q .from) (q .to)) refl (λ x H o. apply-summed ps x H o)
@@ -42,47 +42,47 @@ module _ (n : ℕ) where
       l : Laid
       l = record { edges = r .edges; sum = r .sum }
 
-      go : (x : Path) → shortestPath n (r .edges) (q .from) (q .to) ≡ x → ((y : Repair) → Searchable n (y .edges) → Nonneg binary64 (y .sum) → Summed (applyMatching n ps y))
+      go : (x : Path) → shortestPath n (r .edges) (q .from) (q .to) ≡ x → ((y : Repair) → Searchable n (y .edges) → Nonneg binary64 (y .sum) → Summed (applyMatching most number n ps y))
           → Summed (elim x [
-            | error ↦ stopped 12
-            | found path ↦ elim (leb (length (retraced path r .edges)) mostEdges) [ false ↦ stopped 13 | true ↦ applyMatching n ps (retraced path r) ]
+            | error ↦ stopped refusedPath
+            | found path ↦ elim (leb (length (retraced path r .edges)) most) [ false ↦ stopped number | true ↦ applyMatching most number n ps (retraced path r) ]
           ])
       go error e rec = tt
       go (found path) e rec =
-          either Summed _ _ (rec (retraced path r) (retrace-searchable n l (q .from) (q .to) path e G) (path-sum n (q .from) (q .to) l path e G p)) tt (leb (length (retraced path r .edges)) mostEdges)
+          either Summed _ _ (rec (retraced path r) (retrace-searchable n l (q .from) (q .to) path e G) (path-sum n (q .from) (q .to) l path e G p)) tt (leb (length (retraced path r .edges)) most)
 
   added : (r : Repair) (x : Repairing) → Nonneg binary64 (r .sum) → Summed x → Summed (addSum (r .sum) x)
   added r (stopped k) p h = h
   added r (repaired c) p h = (h .0, add-nonneg binary64 (r .sum) (c .sum) p (h .1))
 
-  close-summed : (r : Repair) → Searchable n (r .edges) → Nonneg binary64 (r .sum) → Summed (close n r)
+  close-summed : (r : Repair) → Searchable n (r .edges) → Nonneg binary64 (r .sum) → Summed (close most number n r)
   unfolding close
   close-summed r G p = go (eqb (length (oddNodes n (r .edges))) 2)
     where
       last : List Pair
       last = pair (getD (oddNodes n (r .edges)) 0 0) (getD (oddNodes n (r .edges)) 1 0) ∷ []
 
-      go : (t : Bool) → Summed (elim t [ false ↦ repaired r | true ↦ addSum (r .sum) (applyMatching n last (withSum zeroLength r)) ])
+      go : (t : Bool) → Summed (elim t [ false ↦ repaired r | true ↦ addSum (r .sum) (applyMatching most number n last (withSum zeroLength r)) ])
       go false = (G, p)
-      go true = added r (applyMatching n last (withSum zeroLength r)) p (apply-summed last (withSum zeroLength r) G (zero-nonneg binary64))
+      go true = added r (applyMatching most number n last (withSum zeroLength r)) p (apply-summed last (withSum zeroLength r) G (zero-nonneg binary64))
 
-  closeIf-summed : (b : Bool) (x : Repairing) → Summed x → Summed (closeIf b n x)
+  closeIf-summed : (b : Bool) (x : Repairing) → Summed x → Summed (closeIf b most number n x)
   unfolding closeIf
   closeIf-summed b (stopped k) h = h
   closeIf-summed false (repaired r) h = h
   closeIf-summed true (repaired r) h = close-summed r (h .0) (h .1)
 
-pub repair-summed : (g : Graph) (s : Settings) → Searchable (length (g .nodes)) (g .edges) → (r : Repair) → fixParity g s ≡ repaired r → Nonneg binary64 (r .sum)
+pub repair-summed : (most number : ℕ) (g : Graph) (s : Settings) → Searchable (length (g .nodes)) (g .edges) → (r : Repair) → fixParity most number g s ≡ repaired r → Nonneg binary64 (r .sum)
 unfolding fixParity
-repair-summed g s G r e = subst (Summed (length (g .nodes))) e (whole (leb (length (oddNodes (length (g .nodes)) (g .edges))) 2)) .1
+repair-summed most number g s G r e = subst (Summed most number (length (g .nodes))) e (whole (leb (length (oddNodes (length (g .nodes)) (g .edges))) 2)) .1
   where
     n : ℕ
     n = length (g .nodes)
 
     whole : (t : Bool)
-        → Summed n (elim t [
-          | true ↦ closeIf (closing s) n (repaired (drawn g))
-          | false ↦ closeIf (closing s) n (applyMatching n (pairsOf g s (oddNodes n (g .edges))) (drawn g))
+        → Summed most number n (elim t [
+          | true ↦ closeIf (closing s) most number n (repaired (drawn g))
+          | false ↦ closeIf (closing s) most number n (applyMatching most number n (pairsOf g s (oddNodes n (g .edges))) (drawn g))
         ])
-    whole true = closeIf-summed n (closing s) (repaired (drawn g)) (G, zero-nonneg binary64)
-    whole false = closeIf-summed n (closing s) (applyMatching n (pairsOf g s (oddNodes n (g .edges))) (drawn g)) (apply-summed n (pairsOf g s (oddNodes n (g .edges))) (drawn g) G (zero-nonneg binary64))
+    whole true = closeIf-summed most number n (closing s) (repaired (drawn g)) (G, zero-nonneg binary64)
+    whole false = closeIf-summed most number n (closing s) (applyMatching most number n (pairsOf g s (oddNodes n (g .edges))) (drawn g)) (apply-summed most number n (pairsOf g s (oddNodes n (g .edges))) (drawn g) G (zero-nonneg binary64))

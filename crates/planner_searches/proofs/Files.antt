@@ -11,33 +11,29 @@ use Rattle.drawing_spec.specs.Read.{recordsOf}
 use Rattle.drawing_spec.proofs.OnGrid.{lines-on, links-on}
 use Rattle.drawing_spec.proofs.Accepted.{Fits, counts-fit}
 use Rattle.graph_spec.specs.Reach.{allReached}
-use Rattle.repair_spec.specs.Retrace.{shortestPath}
 use Rattle.repair_spec.specs.Repair.{Repairing, stopped, repaired}
-use Rattle.planner_spec.specs.Plan.{drawingIn, graphIn, repairIn, stoppedBy}
+use Rattle.graph_spec.specs.Graph.{buildGraph}
+use Rattle.planner_spec.specs.Plan.{drawingIn, repairOf, stoppedBy}
 use Rattle.graph_spec.specs.Weights.{Searchable}
 use Rattle.graph_counts.proofs.Lengths.{drawn-searchable}
 use Rattle.graph_counts.proofs.Nodes.{counted-few}
 use Rattle.repair_early_exit.proofs.Never.{Sound, reached-one-piece, repair-sound}
-use Rattle.repair_early_exit.proofs.ShortSearch.{pathTo, same-path}
 
 module _ (file : List ℕ) (fits : Fits file) where
-  pub graph-searchable : Searchable (length (graphIn file .nodes)) (graphIn file .edges)
+  pub graph-searchable : Searchable (length (buildGraph (drawingIn file) .nodes)) (buildGraph (drawingIn file) .edges)
   unfolding graphIn drawingIn
   graph-searchable = drawn-searchable (drawingIn file) (lines-on (recordsOf file)) (links-on (recordsOf file)) (omega (arith, counted-few (drawingIn file) (counts-fit (drawingIn file) (fits .counts)) .nodes))
 
-  pub graph-path : (s t : ℕ) → pathTo (length (graphIn file .nodes)) (graphIn file .edges) s t ≡ shortestPath (length (graphIn file .nodes)) (graphIn file .edges) s t
-  graph-path = same-path (length (graphIn file .nodes)) (graphIn file .edges) graph-searchable
-
   -- where every node is reached, repair stops with 13 or not at all
-  module _ (reached : allReached (length (graphIn file .nodes)) (graphIn file .edges) ≡ true) where
-    pub repair-in-sound : Sound refusedEdges (length (graphIn file .nodes)) (repairIn file)
+  module _ (reached : allReached (length (buildGraph (drawingIn file) .nodes)) (buildGraph (drawingIn file) .edges) ≡ true) where
+    pub repair-in-sound : Sound refusedEdges (length (buildGraph (drawingIn file) .nodes)) (repairOf (buildGraph (drawingIn file)) (drawingIn file .settings))
     unfolding repairIn
     repair-in-sound =
-        repair-sound mostEdges refusedEdges (graphIn file) (drawingIn file .settings) graph-searchable (reached-one-piece (length (graphIn file .nodes)) (graphIn file .edges) reached)
+        repair-sound mostEdges refusedEdges (buildGraph (drawingIn file)) (drawingIn file .settings) graph-searchable (reached-one-piece (length (buildGraph (drawingIn file) .nodes)) (buildGraph (drawingIn file) .edges) reached)
 
-    pub never-stops-12 : stoppedBy refusedPath (repairIn file) ≡ false
-    never-stops-12 = go (repairIn file) repair-in-sound
+    pub never-stops-12 : stoppedBy refusedPath (repairOf (buildGraph (drawingIn file)) (drawingIn file .settings)) ≡ false
+    never-stops-12 = go (repairOf (buildGraph (drawingIn file)) (drawingIn file .settings)) repair-in-sound
       where
-        go : (x : Repairing) → Sound refusedEdges (length (graphIn file .nodes)) x → stoppedBy refusedPath x ≡ false
+        go : (x : Repairing) → Sound refusedEdges (length (buildGraph (drawingIn file) .nodes)) x → stoppedBy refusedPath x ≡ false
         go (stopped k) h = rw h
         go (repaired r) h = refl

@@ -10,6 +10,7 @@ pub mod Nearest
 pub mod Pairs
 pub mod PairsIn
 pub mod Relax
+pub mod Repair
 pub mod Repaired
 pub mod Rounds
 pub mod Stops
