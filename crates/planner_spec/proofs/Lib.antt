@@ -1,4 +1,4 @@
--- Laws of the definitions in specs/; Proved has demand 3, and FileDecides that nothing but the file decides.
+-- Laws of the definitions in specs/. Proved has demand 3, FileDecides that nothing but the file decides, and Samples the starred drawings.
 pub mod Counted
 pub mod Drawn
 pub mod Examples
@@ -8,3 +8,4 @@ pub mod LineRecord
 pub mod Plan
 pub mod Proved
 pub mod Numbered
+pub mod Samples

@@ -7,5 +7,3 @@ pub mod Plan
 pub mod Words
 -- the statement of demand 3:
 pub mod Demand3
--- the starred drawings:
-pub mod Samples

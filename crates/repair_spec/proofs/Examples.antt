@@ -95,15 +95,18 @@ from-the-lower = refl
 
 -- ---- retraces, one after the other
 
+abbrev two : Float
+two = fin false 1 (pos 1)
+
 abbrev row : List Edge
-row = edge 0 1 one ∷ edge 1 2 one ∷ []
+row = edge 0 1 one ∷ edge 1 2 two ∷ []
 
 rowOf : ℕ → Repairing
 unfolding applyMatching
-rowOf most = applyMatching most 99 3 (pair 0 2 ∷ []) (record { edges = row; retraces = []; sum = zeroLength })
+rowOf most = applyMatching most 99 3 (pair 2 0 ∷ []) (record { edges = row; retraces = []; sum = zeroLength })
 
--- two edges and two copies: as many as allowed, and one more
-at-limit : rowOf 4 ≡ repaired (record { edges = edge 0 1 one ∷ edge 1 2 one ∷ edge 0 1 one ∷ edge 1 2 one ∷ []; retraces = (0 ∷ 1 ∷ 2 ∷ []) ∷ []; sum = fin false 1 (pos 1) })
+-- two edges, and two copies, each with the weight of its own edge: as many as allowed, and one more
+at-limit : rowOf 4 ≡ repaired (record { edges = edge 0 1 one ∷ edge 1 2 two ∷ edge 2 1 two ∷ edge 1 0 one ∷ []; retraces = (2 ∷ 1 ∷ 0 ∷ []) ∷ []; sum = fin false 3 (pos 0) })
 unfolding rowOf
 at-limit = refl
 
