@@ -1,3 +1,2 @@
--- Laws of the definitions in specs/.
-pub mod Line
+-- The walk's parts joined.
 pub mod Walk

@@ -1,21 +1,18 @@
 // The line turned so that it starts at its better end: reversed only where the last point is strictly better.
 ghost use mathlib.Core.Path.{_≡_};
-ghost use Prim.Native.Nat.{_≤_, _<_};
+ghost use Prim.Native.Nat.{_≤_};
 ghost use lib.ListN.{length};
-ghost use Rattle.limits.specs.Limits.{mostNodes, lineRoom};
-ghost use Rattle.graph_node_points.specs.Points.{Places};
-ghost use Rattle.graph_node_points.specs.Line.{Nodes};
+ghost use Rattle.limits.specs.Limits.{lineRoom, mostSide};
+ghost use Rattle.file_records.specs.Meaning.{settingsOf};
+ghost use Rattle.graph_arrays.specs.Arrays.{NodesHeld};
+ghost use Rattle.graph_arrays.specs.NodeList.{NodeList, pointsAlong};
+ghost use Rattle.walk_spec.specs.Line as definition;
 ghost use Rattle.walk_orient.specs.Reverse.{Reversed};
-ghost use Rattle.walk_orient.specs.Ends.{pointIn, Ended};
-ghost use Rattle.walk_orient.specs.Turned.{Turned};
+ghost use Rattle.walk_orient.specs.Ends.{endsFrom};
+use file_records::Settings;
+use limits::LINE_ROOM;
 use limits::MOST_NODES;
-use walk_circuit::ENTRY_ROOM;
-
-// A point by its places on the grid.
-pub struct Point {
-    pub x: u32,
-    pub y: u32,
-}
+use walk_start::Point;
 
 // The first and the last point of a line; `Empty` where it has none.
 pub enum EndPoints {
@@ -23,37 +20,28 @@ pub enum EndPoints {
     Empty,
 }
 
-// The point of a node.
-fn point_of(xs: &[u32; MOST_NODES], ys: &[u32; MOST_NODES], v: usize) -> Point
-    requires { ⌜ v < mostNodes ⌝ }
-    ensures { λ r. ⌜ r ≡ pointIn (now (xs .entry)) (now (ys .entry)) v ⌝ }
-{
-    Point { x: xs[v], y: ys[v] }
-}
-
 // The end points of a line of `count` nodes.
 pub fn end_points(
     xs: &[u32; MOST_NODES],
     ys: &[u32; MOST_NODES],
-    width: u32,
-    height: u32,
-    line: &[u16; ENTRY_ROOM],
+    n: usize,
+    line: &[u16; LINE_ROOM],
     count: usize,
 ) -> EndPoints
-    requires places { ⌜ Places width height (now xs) (now ys) ⌝ }
-    requires nodes { ⌜ Nodes lineRoom (now line) count ⌝ }
-    ensures { λ r. ⌜ Ended width height (now (xs .entry)) (now (ys .entry)) (now (line .entry)) count r ⌝ }
+    requires nodes { ⌜ NodesHeld n (now xs) (now ys) ⌝ }
+    requires line { ⌜ NodeList n lineRoom (now line) count ⌝ }
+    ensures { λ r. ⌜ r ≡ endsFrom (definition.endPoints (pointsAlong n (now (xs .entry)) (now (ys .entry)) (now (line .entry)) count)) ⌝ }
 {
     if count == 0 {
         return EndPoints::Empty;
     }
-    let first = point_of(xs, ys, widen::wide(line[0]));
-    let last = point_of(xs, ys, widen::wide(line[count - 1]));
+    let first = walk_start::point_of(xs, ys, widen::wide(line[0]));
+    let last = walk_start::point_of(xs, ys, widen::wide(line[count - 1]));
     EndPoints::Ends(first, last)
 }
 
 // The first `count` nodes the other way round.
-fn reverse(line: &mut [u16; ENTRY_ROOM], count: usize)
+fn reverse(line: &mut [u16; LINE_ROOM], count: usize)
     requires { ⌜ (count ≤ lineRoom) × (count ≤ length (now line)) ⌝ }
     ensures { λ _. ⌜ Reversed (now (line .entry)) count (now (line .exit)) ⌝ }
 {
@@ -73,22 +61,21 @@ fn reverse(line: &mut [u16; ENTRY_ROOM], count: usize)
 pub fn orient_path(
     xs: &[u32; MOST_NODES],
     ys: &[u32; MOST_NODES],
-    width: u32,
-    height: u32,
-    inner: bool,
-    line: &mut [u16; ENTRY_ROOM],
+    n: usize,
+    settings: Settings,
+    line: &mut [u16; LINE_ROOM],
     count: usize,
 )
-    requires places { ⌜ Places width height (now xs) (now ys) ⌝ }
-    requires nodes { ⌜ Nodes lineRoom (now line) count ⌝ }
-    ensures { λ _. ⌜ Turned width height inner (now (xs .entry)) (now (ys .entry)) (now (line .entry)) count (now (line .exit)) ⌝ }
+    requires sides { ⌜ (settings .width ≤ mostSide) × (settings .height ≤ mostSide) ⌝ }
+    requires nodes { ⌜ NodesHeld n (now xs) (now ys) ⌝ }
+    requires line { ⌜ NodeList n lineRoom (now line) count ⌝ }
+    ensures { λ _. ⌜ pointsAlong n (now (xs .entry)) (now (ys .entry)) (now (line .exit)) count ≡ definition.orient (settingsOf settings) (pointsAlong n (now (xs .entry)) (now (ys .entry)) (now (line .entry)) count) ⌝ }
+    ensures { λ _. ⌜ NodeList n lineRoom (now (line .exit)) count ⌝ }
 {
-    let EndPoints::Ends(first, last) = end_points(xs, ys, width, height, line, count) else {
+    let EndPoints::Ends(first, last) = end_points(xs, ys, n, line, count) else {
         return;
     };
-    let from_first = center::from_center(width, height, first.x, first.y);
-    let from_last = center::from_center(width, height, last.x, last.y);
-    let turn = center::better(inner, from_last, from_first);
+    let turn = walk_start::lies_better(settings, last, first);
     if turn {
         reverse(line, count);
     }

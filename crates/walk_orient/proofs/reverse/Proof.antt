@@ -1,12 +1,13 @@
--- `orient::reverse` meets its contract. The invariant: those passed from both ends stand in each other's place, and the rest are as they were. Assumes nothing.
+-- `walk_orient::reverse` meets its contract. The invariant: those passed from both ends stand in each other's place, and the rest are as they were. Assumes nothing.
 use Rattle.walk_orient.proofs.ReverseLaws.{Turning, turning-none, turning-more, turning-all}
 use Prim.Native.Nat.{_≤_}
+use Rattle.limits.specs.Limits.{lineRoom}
 use borrow.Author.Needs.{needs}
 use Rattle.walk_orient.proofs.reverse.Statement.{statement}
 use Rattle.walk_orient.proofs.reverse.Tie as tie
 
 abbrev Inv-loop : tie.InvT-loop
-Inv-loop line₀ count i₀ j₀ line i j = Turning line₀ count line i j × (count ≤ 4002)
+Inv-loop line₀ count i₀ j₀ line i j = Turning line₀ count line i j × (count ≤ lineRoom)
 
 abbrev μ-loop : tie.MeasureT-loop
 μ-loop line₀ count i₀ j₀ line i j = j
