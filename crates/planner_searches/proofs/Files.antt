@@ -21,13 +21,13 @@ use Rattle.repair_early_exit.proofs.Never.{Sound, reached-one-piece, repair-sou
 
 module _ (file : List ℕ) (fits : Fits file) where
   pub graph-searchable : Searchable (length (buildGraph (drawingIn file) .nodes)) (buildGraph (drawingIn file) .edges)
-  unfolding graphIn drawingIn
+  unfolding drawingIn
   graph-searchable = drawn-searchable (drawingIn file) (lines-on (recordsOf file)) (links-on (recordsOf file)) (omega (arith, counted-few (drawingIn file) (counts-fit (drawingIn file) (fits .counts)) .nodes))
 
   -- where every node is reached, repair stops with 13 or not at all
   module _ (reached : allReached (length (buildGraph (drawingIn file) .nodes)) (buildGraph (drawingIn file) .edges) ≡ true) where
     pub repair-in-sound : Sound refusedEdges (length (buildGraph (drawingIn file) .nodes)) (repairOf (buildGraph (drawingIn file)) (drawingIn file .settings))
-    unfolding repairIn
+    unfolding repairOf
     repair-in-sound =
         repair-sound mostEdges refusedEdges (buildGraph (drawingIn file)) (drawingIn file .settings) graph-searchable (reached-one-piece (length (buildGraph (drawingIn file) .nodes)) (buildGraph (drawingIn file) .edges) reached)
 
