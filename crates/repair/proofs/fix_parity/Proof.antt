@@ -41,9 +41,11 @@ returns : tie.Need-returns
 returns c =
     let f = c .before .before .before .before .before .before .before in
     let b = start f in
-    let case = c .before .pairs in
-    (parity-refused (b .args .most) (b .args .number) (graphIn (b .args .n) (b .args .m) (b .args .xs .now) (b .args .ys .now) (entry b)) (settingsOf (b .args .settings)) (length (b .args .floats .now)) (length (b .args .bytes .now)) (case .given .0 .0)
-      (found-refusal (f .find-pairs .result) (firsts f) (seconds f) _ (f .find-pairs .ensures) (case .given .0 .0) (case .given .1)), tt)
+    let case = c .before .pairs in (
+      parity-refused (b .args .most) (b .args .number) (graphIn (b .args .n) (b .args .m) (b .args .xs .now) (b .args .ys .now) (entry b)) (settingsOf (b .args .settings)) (length (b .args .floats .now)) (length (b .args .bytes .now)) (case .given .0 .0)
+          (found-refusal (f .find-pairs .result) (firsts f) (seconds f) _ (f .find-pairs .ensures) (case .given .0 .0) (case .given .1)),
+      tt,
+    )
 
 enum-known-pairs-2 : tie.Need-enum-known-pairs-2
 enum-known-pairs-2 c = search needs
@@ -70,10 +72,12 @@ returns-2 : tie.Need-returns-2
 returns-2 c =
     let f = c .before .before .before .before .before .before .before .before .before .before .before .before .before .before .before .before .before .before .before .before in
     let b = start f in
-    let case = c .before .before .before .before .before .before .before .before .before .before .before .before .before .before .pairs2 in
-    (c .answer .ensures .0
-      ∙ parity-retraced (b .args .most) (b .args .number) (b .args .n) (b .args .m) (b .args .xs .now) (b .args .ys .now) (entry b) (b .pre .2) (settingsOf (b .args .settings)) (length (b .args .floats .now)) (length (b .args .bytes .now)) (case .given .0 .0) (case .given .0 .1 .0) (firsts f) (seconds f)
-      (found-some (f .find-pairs .result) (firsts f) (seconds f) _ (f .find-pairs .ensures) (case .given .0 .0) (case .given .0 .1 .0) (case .given .1)) _ (c .before .before .before .before .before .retrace-pairs .ensures .is), c .answer .ensures .1)
+    let case = c .before .before .before .before .before .before .before .before .before .before .before .before .before .before .pairs2 in (
+      c .answer .ensures .0
+          ∙ parity-retraced (b .args .most) (b .args .number) (b .args .n) (b .args .m) (b .args .xs .now) (b .args .ys .now) (entry b) (b .pre .2) (settingsOf (b .args .settings)) (length (b .args .floats .now)) (length (b .args .bytes .now)) (case .given .0 .0) (case .given .0 .1 .0) (firsts f) (seconds f)
+          (found-some (f .find-pairs .result) (firsts f) (seconds f) _ (f .find-pairs .ensures) (case .given .0 .0) (case .given .0 .1 .0) (case .given .1)) _ (c .before .before .before .before .before .retrace-pairs .ensures .is),
+      c .answer .ensures .1,
+    )
 
 pub fix-parity-spec : {M : Type 1} → statement M
 fix-parity-spec =
