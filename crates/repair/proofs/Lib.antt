@@ -1,5 +1,2 @@
--- Laws of the definitions in specs/.
-pub mod AnswerLaws
+-- Laws for the proofs of the code.
 pub mod ParityLaws
-pub mod Stored
-pub mod Usable

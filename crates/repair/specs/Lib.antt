@@ -1,8 +1,4 @@
--- Repair as one outcome, with the limit of edges and the number for passing it as parameters; with document 01's it is `fixParity`.
+-- What fix_parity answers:
 pub mod Parity
--- The graph in the arrays:
-pub mod Stored
--- The pairs in two arrays:
--- What the code's answer says, and how it comes to it:
+-- how the code's answer says so, with the arrays as they then are:
 pub mod Meaning
-pub mod Answer

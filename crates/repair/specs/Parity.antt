@@ -1,46 +1,31 @@
--- Repair as one outcome, with the limit of edges and the number for passing it as parameters.
+-- What fix_parity answers, with the limit of edges and the number for passing it as the caller's.
 use mathlib.Core.List.{List}
-use mathlib.Core.Bool.{Bool, true, false}
 use Prim.Native.Nat.{ℕ}
 use lib.ListN.{length}
 use lib.Ieee.{Float}
-use Rattle.limits.specs.Limits.{mostOdd}
-use Rattle.drawing_spec.specs.Drawing.{Settings, closing}
+use Rattle.drawing_spec.specs.Drawing.{Settings}
+use Rattle.drawing_spec.specs.Refusal.{refused, accepted, verdict}
 use Rattle.graph_spec.specs.Graph.{Edge, Graph}
 use Rattle.graph_spec.specs.Degree.{oddNodes}
-use Rattle.repair_spec.specs.Distance.{zeroLength}
-use Rattle.repair_spec.specs.Repair.{pairsOf, tooManyOdd, tableShort}
-use Rattle.repair_copies.specs.Laying.{laidOf}
-use Rattle.repair_retrace.specs.Apply.{Outcome, refused, done, applyPairs}
-use Rattle.repair_closing.specs.Close.{closeWhere}
+use Rattle.repair_spec.specs.Repair.{fixParity}
+use Rattle.repair_retrace.specs.Outcome as repair
+use Rattle.repair_retrace.specs.Outcome.{Outcome, outcome}
+use Rattle.repair_pairs.specs.Refusal.{tableConditions}
 
--- the odd nodes of a graph with these edges
-abbrev pub oddOf : Graph → List Edge → List ℕ
-oddOf g es = oddNodes (length (g .nodes)) es
-
--- the retraces of the pairs, and then of the two nodes that are left
-unfoldable pub fixWith : ℕ → ℕ → Graph → Settings → Outcome
-fixWith most number g s =
-    closeWhere (closing s) most number (length (g .nodes)) (applyPairs most number (length (g .nodes)) (pairsOf g s (oddOf g (g .edges))) (laidOf (g .edges) zeroLength))
-
--- conditions 10 and 11, of the graph's odd nodes, come before it
-abbrev pub afterChecks : Bool → Bool → Outcome → Outcome
-afterChecks true short o = refused 10
-afterChecks false true o = refused 11
-afterChecks false false o = o
-
-unfoldable pub parityFor : ℕ → ℕ → Graph → Settings → ℕ → ℕ → Outcome
-parityFor most number g s floats bytes =
-    let odd = length (oddOf g (g .edges)) in
-    afterChecks (tooManyOdd mostOdd s odd) (tableShort mostOdd s odd floats bytes) (fixWith most number g s)
-
--- ---- the answer of document 01
-
--- the number of a refusal, or: the length of the retraces, the number of odd nodes before and after, and the number of edges after
+-- the number of a refusal, or: the length of the retraces, the number of odd nodes before and after, and the edges with the copies
 pub data Value : Type 0 where
   refusal : ℕ → Value
-  values : Float → ℕ → ℕ → ℕ → Value
+  values : Float → ℕ → ℕ → List Edge → Value
 
-abbrev pub answerOf : Graph → Outcome → Value
-answerOf g (refused k) = refusal k
-answerOf g (done l) = values (l .sum) (length (oddOf g (g .edges))) (length (oddOf g (l .edges))) (length (l .edges))
+-- document 01's values for the repair of a graph of n nodes with `before` odd ones
+abbrev pub valueOf : ℕ → ℕ → Outcome → Value
+valueOf n before (repair.refused k) = refusal k
+valueOf n before (repair.done l) = values (l .sum) before (length (oddNodes n (l .edges))) (l .edges)
+
+-- conditions 10 and 11 come first, then the retraces with conditions 12 and 13
+unfoldable pub parityFor : ℕ → ℕ → Graph → Settings → ℕ → ℕ → Value
+unfolding verdict tableConditions fixParity
+parityFor most number g s floats bytes =
+    let n = length (g .nodes) in
+    let odd = length (oddNodes n (g .edges)) in
+    elim (verdict (tableConditions s odd floats bytes)) [ refused k ↦ refusal k | accepted ↦ valueOf n odd (outcome (fixParity most number g s)) ]

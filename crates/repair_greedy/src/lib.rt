@@ -197,7 +197,12 @@ fn find_closest(
 }
 
 // The node at place i goes, and the last one takes its place.
-fn remove_place(working: &mut [u16; MOST_NODES], lows: &mut [u64; MOST_NODES], last: usize, i: usize)
+fn remove_place(
+    working: &mut [u16; MOST_NODES],
+    lows: &mut [u64; MOST_NODES],
+    last: usize,
+    i: usize,
+)
     requires { ⌜ (last < mostNodes) × (i < mostNodes) ⌝ }
     ensures { λ _. ⌜ (now (working .exit) ≡ set (now (working .entry)) i (getD (now (working .entry)) last 0)) × (now (lows .exit) ≡ set (now (lows .entry)) i 0) ⌝ }
 {
