@@ -4,12 +4,12 @@ ghost use mathlib.Core.Path.{_≡_};
 ghost use Prim.Native.Nat.{_+_, _*_, _≤_, _<_};
 ghost use lib.ListN.{length};
 ghost use lib.Seq.{sets};
-ghost use Rattle.limits.specs.Limits.{lineRoom};
+ghost use Rattle.limits.specs.Limits.{mostNodes, lineRoom};
 ghost use Rattle.drawing_spec.specs.Bytes.{bytes};
-ghost use Rattle.graph_node_points.specs.Line.{Nodes};
-ghost use Rattle.record.specs.Written.{placeBytes, Written};
+ghost use Rattle.graph_arrays.specs.NodeList.{NodeList};
+ghost use Rattle.record.specs.Written.{placeBytes, pointsIn, recordIn};
+use limits::LINE_ROOM;
 use limits::MOST_NODES;
-use walk_circuit::ENTRY_ROOM;
 
 // The kind of a line that the planner writes.
 const LINE: u64 = 4;
@@ -39,17 +39,17 @@ fn write_point(output: &mut [u8], at: usize, x: u32, y: u32)
     write_number(output, at + 8, 8, grid::write_place(y));
 }
 
-// Writes the record of a line of `count` nodes, where the output has room for it. Later bytes keep their value.
+// Writes the record of a line of `count` nodes into an output that has room for it. Later bytes keep their value.
 pub fn write_line(
     xs: &[u32; MOST_NODES],
     ys: &[u32; MOST_NODES],
-    line: &[u16; ENTRY_ROOM],
+    line: &[u16; LINE_ROOM],
     count: usize,
     output: &mut [u8],
 )
-    requires nodes { ⌜ Nodes lineRoom (now line) count ⌝ }
+    requires nodes { ⌜ NodeList mostNodes lineRoom (now line) count ⌝ }
     requires room { ⌜ 6 + 16 * count ≤ length (now output) ⌝ }
-    ensures { λ _. ⌜ Written (now (xs .entry)) (now (ys .entry)) (now (line .entry)) count (now (output .entry)) (now (output .exit)) ⌝ }
+    ensures { λ _. ⌜ now (output .exit) ≡ recordIn (pointsIn (now (xs .entry)) (now (ys .entry)) (now (line .entry)) count) (now (output .entry)) ⌝ }
 {
     write_number(output, 0, 4, 16 * count as u64);
     write_number(output, 4, 2, LINE);

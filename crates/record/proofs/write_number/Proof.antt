@@ -1,4 +1,4 @@
--- `line_record::write_number` meets its contract. The invariant: the bytes that are left, stored from here on, give all. Assumes nothing.
+-- `record::write_number` meets its contract. The invariant: the bytes that are left, stored from here on, give all. Assumes nothing.
 use Prim.Native.Nat.{_+_, _≤_}
 use lib.ListN.{length}
 use native.Mathlib.Omega.{arith}

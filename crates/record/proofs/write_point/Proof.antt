@@ -1,4 +1,4 @@
--- `line_record::write_point` meets its contract. Assumes nothing.
+-- `record::write_point` meets its contract. Assumes nothing.
 use Rattle.record.proofs.Written.{point-stored}
 use borrow.Author.Needs.{needs}
 use Rattle.record.proofs.write_point.Statement.{statement}
