@@ -9,7 +9,7 @@ use borrow.Author.Tests.{lt-ltb, le-ltb}
 use Rattle.drawing_spec.specs.Drawing.{Point, Settings}
 use Rattle.graph_spec.specs.Graph.{Edge, pointAt}
 use Rattle.walk_spec.specs.Line.{lineOf}
-use Rattle.planner_spec.specs.Plan.{lineRecord}
+use Rattle.planner_spec.specs.LineRecord.{lineRecord}
 use Rattle.walk.specs.Walk.{Given}
 use Rattle.walk.specs.Line.{LineOf}
 use Rattle.record.specs.Written.{Written}

@@ -8,7 +8,7 @@ use lib.Dec.{ltb}
 use Rattle.drawing_spec.specs.Drawing.{Point, Settings}
 use Rattle.graph_spec.specs.Graph.{Edge}
 use Rattle.walk_spec.specs.Line.{lineOf}
-use Rattle.planner_spec.specs.Plan.{lineRecord}
+use Rattle.planner_spec.specs.LineRecord.{lineRecord}
 use Rattle.walk.specs.Walk.{Given}
 use Rattle.planner_output.specs.declared.Outcome.{Outcome}
 use Rattle.planner_output.specs.declared.Outcome.the-variants as variant

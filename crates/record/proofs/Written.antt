@@ -11,7 +11,7 @@ use Rattle.limits.specs.Limits.{mostNodes, lineRoom}
 use Rattle.grid.specs.Grid.{writePlace}
 use Rattle.drawing_spec.specs.Drawing.{Point}
 use Rattle.drawing_spec.specs.Bytes.{bytes}
-use Rattle.planner_spec.specs.Plan.{pointBytes, lineRecord}
+use Rattle.planner_spec.specs.LineRecord.{pointBytes, lineRecord}
 use Rattle.graph_arrays.specs.Arrays.{pointIn}
 use Rattle.graph_arrays.specs.NodeList.{NodeList}
 use Rattle.record.proofs.Stored.{sets-append, bytes-length}

@@ -5,7 +5,7 @@ use lib.ListN.{length, take, drop}
 use Rattle.grid.specs.Grid.{writePlace}
 use Rattle.drawing_spec.specs.Drawing.{Point}
 use Rattle.drawing_spec.specs.Bytes.{bytes}
-use Rattle.planner_spec.specs.Plan.{lineRecord}
+use Rattle.planner_spec.specs.LineRecord.{lineRecord}
 use Rattle.graph_arrays.specs.Arrays.{pointIn}
 
 -- the bytes of the point at the places x and y
