@@ -1,16 +1,20 @@
 // The line through the repaired graph, written into the output: the last step of a plan, with check 14.
 ghost use mathlib.Core.Path.{_≡_};
-ghost use Prim.Native.Nat.{_<_, _≤_};
-ghost use Rattle.limits.specs.Limits.{mostNodes, edgeRoom};
-ghost use Rattle.graph_node_points.specs.Points.{Places};
-ghost use Rattle.walk.specs.Walk.{Edges};
-ghost use Rattle.planner_output.specs.Output.{Emitted};
+ghost use Prim.Native.Nat.{_≤_};
+ghost use Rattle.limits.specs.Limits.{mostSide};
+ghost use Rattle.file_records.specs.Meaning.{settingsOf};
+ghost use Rattle.graph_adjacency.specs.Lists.{adjacency};
+ghost use Rattle.graph_arrays.specs.Arrays.{nodesIn, edgesIn, NodesHeld, EdgesHeld};
+ghost use Rattle.walk_spec.specs.Line.{lineOf};
+ghost use Rattle.planner_output.specs.Output.{emittedOf, outputWith};
+use file_records::Settings;
+use limits::ARC_ROOM;
 use limits::EDGE_ROOM;
+use limits::LINE_ROOM;
 use limits::MOST_NODES;
-use walk_circuit::ENTRY_ROOM;
 
 // How many points the line has; `Short` where the output has no room for them.
-pub enum Outcome {
+pub enum Emitted {
     Points(usize),
     Short,
 }
@@ -19,40 +23,27 @@ pub enum Outcome {
 pub fn emit_line(
     xs: &[u32; MOST_NODES],
     ys: &[u32; MOST_NODES],
-    n: usize,
-    ends: &mut [u16; 2 * EDGE_ROOM],
+    ends: &mut [u16; ARC_ROOM],
     weights: &mut [f64; EDGE_ROOM],
-    next: &mut [u16; 2 * EDGE_ROOM],
+    next: &mut [u16; ARC_ROOM],
     heads: &mut [u16; 2 * MOST_NODES],
+    n: usize,
     m: usize,
-    width: u32,
-    height: u32,
-    inner: bool,
+    settings: Settings,
     output: &mut [u8],
-) -> Outcome
-    requires room { ⌜ (n ≤ mostNodes) × (m < edgeRoom) ⌝ }
-    requires places { ⌜ Places width height (now xs) (now ys) ⌝ }
-    requires edges { ⌜ Edges n (now ends) (now next) (now heads) m ⌝ }
-    ensures { λ r. ⌜ Emitted width height inner (now (xs .entry)) (now (ys .entry)) n (now (ends .entry)) (now (next .entry)) (now (heads .entry)) m (now (output .entry)) (now (output .exit)) r ⌝ }
+) -> Emitted
+    requires sides { ⌜ (settings .width ≤ mostSide) × (settings .height ≤ mostSide) ⌝ }
+    requires nodes { ⌜ NodesHeld n (now xs) (now ys) ⌝ }
+    requires edges { ⌜ EdgesHeld n m (adjacency (now ends) (now weights) (now next) (now heads)) ⌝ }
+    ensures { λ r. ⌜ r ≡ emittedOf (now (output .entry)) (lineOf (settingsOf settings) (nodesIn n (now (xs .entry)) (now (ys .entry))) (edgesIn m (adjacency (now (ends .entry)) (now (weights .entry)) (now (next .entry)) (now (heads .entry))))) ⌝ }
+    ensures { λ _. ⌜ now (output .exit) ≡ outputWith (now (output .entry)) (lineOf (settingsOf settings) (nodesIn n (now (xs .entry)) (now (ys .entry))) (edgesIn m (adjacency (now (ends .entry)) (now (weights .entry)) (now (next .entry)) (now (heads .entry))))) ⌝ }
 {
-    let mut line = [0u16; ENTRY_ROOM];
-    let count = walk::line_of(
-        xs,
-        ys,
-        n,
-        ends,
-        weights,
-        next,
-        heads,
-        m,
-        width,
-        height,
-        inner,
-        &mut line,
-    );
+    // 8,004 bytes.
+    let mut line = [0u16; LINE_ROOM];
+    let count = walk::line_of(xs, ys, ends, weights, next, heads, n, m, settings, &mut line);
     if output.len() < 6 + 16 * count {
-        return Outcome::Short;
+        return Emitted::Short;
     }
     record::write_line(xs, ys, &line, count, output);
-    Outcome::Points(count)
+    Emitted::Points(count)
 }

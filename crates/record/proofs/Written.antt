@@ -11,11 +11,11 @@ use Rattle.limits.specs.Limits.{mostNodes, lineRoom}
 use Rattle.grid.specs.Grid.{writePlace}
 use Rattle.drawing_spec.specs.Drawing.{Point}
 use Rattle.drawing_spec.specs.Bytes.{bytes}
-use Rattle.planner_spec.specs.LineRecord.{pointBytes, lineRecord}
+use Rattle.planner_spec.specs.LineRecord.{pointBytes, lineRecord, inFront}
 use Rattle.graph_arrays.specs.Arrays.{pointIn}
 use Rattle.graph_arrays.specs.NodeList.{NodeList}
 use Rattle.record.proofs.Stored.{sets-append, bytes-length}
-use Rattle.record.specs.Written.{placeBytes, pointsIn, recordIn}
+use Rattle.record.specs.Written.{placeBytes, pointsIn}
 
 place-bytes-length : (x y : ℕ) → length (placeBytes x y) ≡ 16
 place-bytes-length x y = omega (arith, length-append (bytes 8 (writePlace x)) (bytes 8 (writePlace y)), bytes-length 8 (writePlace x), bytes-length 8 (writePlace y))
@@ -95,7 +95,7 @@ module _ (xs ys nodes : List ℕ) (count : ℕ) where
       record-length =
           omega (arith, count-is, length-append (bytes 4 (16 * length ps)) (bytes 2 4 ++ pointBytes ps), length-append (bytes 2 4) (pointBytes ps), bytes-length 4 (16 * length ps), bytes-length 2 4, points-length ps)
 
-      pub writing-all : (output : List ℕ) (i : ℕ) → count ≤ i → 6 + 16 * count ≤ length output₀ → Writing xs ys nodes count headed output i → output ≡ recordIn (pointsIn xs ys nodes count) output₀
+      pub writing-all : (output : List ℕ) (i : ℕ) → count ≤ i → 6 + 16 * count ≤ length output₀ → Writing xs ys nodes count headed output i → output ≡ inFront (lineRecord (pointsIn xs ys nodes count)) output₀
       unfolding ps
       writing-all output i h room w =
           let short : length (take count nodes) ≤ i = omega (arith, length-take-le count nodes (n .long)) in

@@ -16,6 +16,3 @@ placeBytes x y = bytes 8 (writePlace x) ++ bytes 8 (writePlace y)
 abbrev pub pointsIn : List ℕ → List ℕ → List ℕ → ℕ → List Point
 pointsIn xs ys line count = map (pointIn xs ys) (take count line)
 
--- the record of a line, and behind it what stood there before
-abbrev pub recordIn : List Point → List ℕ → List ℕ
-recordIn line output = lineRecord line ++ drop (length (lineRecord line)) output

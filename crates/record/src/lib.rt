@@ -4,10 +4,11 @@ ghost use mathlib.Core.Path.{_≡_};
 ghost use Prim.Native.Nat.{_+_, _*_, _≤_, _<_};
 ghost use lib.ListN.{length};
 ghost use lib.Seq.{sets};
+ghost use Rattle.planner_spec.specs.LineRecord.{lineRecord, inFront};
 ghost use Rattle.limits.specs.Limits.{mostNodes, lineRoom};
 ghost use Rattle.drawing_spec.specs.Bytes.{bytes};
 ghost use Rattle.graph_arrays.specs.NodeList.{NodeList};
-ghost use Rattle.record.specs.Written.{placeBytes, pointsIn, recordIn};
+ghost use Rattle.record.specs.Written.{placeBytes, pointsIn};
 use limits::LINE_ROOM;
 use limits::MOST_NODES;
 
@@ -49,7 +50,7 @@ pub fn write_line(
 )
     requires nodes { ⌜ NodeList mostNodes lineRoom (now line) count ⌝ }
     requires room { ⌜ 6 + 16 * count ≤ length (now output) ⌝ }
-    ensures { λ _. ⌜ now (output .exit) ≡ recordIn (pointsIn (now (xs .entry)) (now (ys .entry)) (now (line .entry)) count) (now (output .entry)) ⌝ }
+    ensures { λ _. ⌜ now (output .exit) ≡ inFront (lineRecord (pointsIn (now (xs .entry)) (now (ys .entry)) (now (line .entry)) count)) (now (output .entry)) ⌝ }
 {
     write_number(output, 0, 4, 16 * count as u64);
     write_number(output, 4, 2, LINE);
