@@ -18,9 +18,9 @@ pub fn clear_floats(table: &mut [f64])
 pub fn clear_bytes(table: &mut [u8])
     ensures { λ _. ⌜ now (table .exit) ≡ replicate (length (now (table .entry))) 0 ⌝ }
 {
-    let mut k = 0;
-    while k < table.len() {
-        table[k] = 0;
-        k += 1;
+    let mut i = 0;
+    while i < table.len() {
+        table[i] = 0;
+        i += 1;
     }
 }

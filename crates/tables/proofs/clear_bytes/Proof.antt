@@ -1,4 +1,4 @@
--- `tables::clear_bytes` meets its contract. The loop's invariant: k zeros, then what was there.
+-- `tables::clear_bytes` meets its contract. The loop's invariant: i zeros, then what was there.
 use native.Mathlib.Omega.{arith}
 use Prim.Native.Nat.{_≤_, _-_}
 use mathlib.Core.Path.{_≡_, refl}
@@ -10,11 +10,11 @@ use Rattle.tables.proofs.clear_bytes.Statement.{statement}
 use Rattle.tables.proofs.clear_bytes.Tie as tie
 
 abbrev Inv-loop : tie.InvT-loop
-Inv-loop table₀ k₀ table k =
-    (k ≤ length table₀) × (length table ≡ length table₀) × (table ≡ replicate k 0 ++ drop k table₀)
+Inv-loop table₀ i₀ table i =
+    (i ≤ length table₀) × (length table ≡ length table₀) × (table ≡ replicate i 0 ++ drop i table₀)
 
 abbrev μ-loop : tie.MeasureT-loop
-μ-loop table₀ k₀ table k = length table₀ - k
+μ-loop table₀ i₀ table i = length table₀ - i
 
 loop-holds : tie.Need-loop-holds Inv-loop μ-loop
 loop-holds c = (omega arith, refl, refl)
@@ -22,8 +22,8 @@ loop-holds c = (omega arith, refl, refl)
 slice-write-table : tie.Need-slice-write-table Inv-loop μ-loop
 slice-write-table c = search needs
 
-add-k : tie.Need-add-k Inv-loop μ-loop
-add-k c = search needs
+add-i : tie.Need-add-i Inv-loop μ-loop
+add-i c = search needs
 
 loop-less : tie.Need-loop-less Inv-loop μ-loop
 loop-less c = search needs
@@ -35,7 +35,7 @@ same-length : tie.Need-same-length Inv-loop μ-loop
 same-length c = search needs
 
 returns : tie.Need-returns Inv-loop μ-loop
-returns c = clear-over 0 (c .before .loop .k) (c .before .before .args .table .now) _ (omega arith) (c .before .loop .inv .2)
+returns c = clear-over 0 (c .before .loop .i) (c .before .before .args .table .now) _ (omega arith) (c .before .loop .inv .2)
 
 pub clear-bytes-spec : {M : Type 1} → statement M
 clear-bytes-spec =
@@ -45,7 +45,7 @@ clear-bytes-spec =
     μ-loop
     loop-holds
     slice-write-table
-    add-k
+    add-i
     loop-less
     loop-again
     same-length
