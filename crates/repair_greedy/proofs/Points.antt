@@ -2,10 +2,11 @@
 use mathlib.Core.Path.{_≡_, refl, ap, _∙_}
 use mathlib.Core.Logic.{inl, inr}
 use mathlib.Core.List.{List, [], _∷_, map}
-use Prim.Native.Nat.{ℕ, zero, suc, _-_, _^_, _≤_, _<_}
+use Prim.Native.Nat.{ℕ, zero, suc, _-_, _^_, _≤_, _<_, _*_}
 use native.Mathlib.Omega.{arith}
 use lib.ListN.{length, getD, take, set, length-set}
 use lib.Seq.{getD-take, length-take-le}
+use Rattle.grid.specs.Grid.{origin}
 use Rattle.limits.specs.Limits.{mostNodes}
 use Rattle.length.specs.Root.{squaredOf}
 use Rattle.length.proofs.LengthLaws.{square-le}
@@ -21,9 +22,13 @@ use Rattle.repair_greedy.specs.Rows.{at}
 pub distance-is : (xs ys : List ℕ) (px py v u d : ℕ) → u ≡ v → d ≡ squaredOf px py (getD xs u 0) (getD ys u 0) → d ≡ squared (at px py) (pointIn xs ys v)
 distance-is xs ys px py v u d e h = h ∙ ap (λ (k : ℕ). squared (at px py) (pointIn xs ys k)) e
 
+-- a place of the grid is small enough for squares
+pub near : (x : ℕ) → x ≤ 2 * origin → x ≤ 2 ^ 24
+near x h = omega (arith, h)
+
 pub distance-small : (n : ℕ) (xs ys : List ℕ) (u v : ℕ) → NodesHeld n xs ys → squared (pointIn xs ys u) (pointIn xs ys v) ≤ 2 ^ 49
 distance-small n xs ys u v H =
-    omega (arith, square-le (getD xs u 0) (getD xs v 0) (H .xs-on u) (H .xs-on v), square-le (getD ys u 0) (getD ys v 0) (H .ys-on u) (H .ys-on v))
+    omega (arith, square-le (getD xs u 0) (getD xs v 0) (near _ (H .xs-on u)) (near _ (H .xs-on v)), square-le (getD ys u 0) (getD ys v 0) (near _ (H .ys-on u)) (near _ (H .ys-on v)))
 
 -- any number of nodes that the arrays have room for
 pub held-most : (n : ℕ) (xs ys : List ℕ) → NodesHeld n xs ys → NodesHeld mostNodes xs ys

@@ -3,8 +3,9 @@
 // least distance first, and then looks only at the rows whose bound does not rule them out.
 ghost use mathlib.Core.Path.{_≡_};
 ghost use mathlib.Core.List.{map};
-ghost use Prim.Native.Nat.{_+_, _-_, _^_, _<_, _≤_};
+ghost use Prim.Native.Nat.{_+_, _-_, _^_, _<_, _≤_, _*_};
 ghost use lib.ListN.{getD, take, drop, set};
+ghost use Rattle.grid.specs.Grid.{origin};
 ghost use Rattle.limits.specs.Limits.{mostNodes, mostPairs};
 ghost use Rattle.graph_spec.specs.Chain.{squared};
 ghost use Rattle.graph_arrays.specs.Arrays.{pointIn, nodesIn, NodesHeld, AreNodes};
@@ -25,7 +26,7 @@ struct Nearest {
 
 // The squared distance from px, py to the node v.
 fn distance_to(xs: &[u32; MOST_NODES], ys: &[u32; MOST_NODES], px: u32, py: u32, v: u16) -> u64
-    requires { ⌜ (v < mostNodes) × (px ≤ 2 ^ 24) × (py ≤ 2 ^ 24) × NodesHeld mostNodes (now xs) (now ys) ⌝ }
+    requires { ⌜ (v < mostNodes) × (px ≤ 2 * origin) × (py ≤ 2 * origin) × NodesHeld mostNodes (now xs) (now ys) ⌝ }
     ensures { λ r. ⌜ r ≡ squared (at px py) (pointIn (now (xs .entry)) (now (ys .entry)) v) ⌝ }
 {
     let u = widen::wide(v);

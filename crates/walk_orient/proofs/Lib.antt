@@ -2,3 +2,4 @@
 pub mod Ends
 pub mod ReverseLaws
 pub mod Turned
+pub mod Source

@@ -1,5 +1,5 @@
 -- `repair_greedy::distance_to` meets its contract.
-use Rattle.repair_greedy.proofs.Points.{distance-is}
+use Rattle.repair_greedy.proofs.Points.{distance-is, near}
 use borrow.Author.Needs.{needs}
 use Rattle.repair_greedy.proofs.distance_to.Statement.{statement}
 use Rattle.repair_greedy.proofs.distance_to.Tie as tie
@@ -20,7 +20,7 @@ element-copy-out-qy : tie.Need-element-copy-out-qy
 element-copy-out-qy c = search needs
 
 squared-requires : tie.Need-squared-requires
-squared-requires c κs = let pre = c .before .before .before .pre in (pre .1, pre .2, pre .3 .xs-on _, pre .3 .ys-on _)
+squared-requires c κs = let pre = c .before .before .before .pre in (near _ (pre .1), near _ (pre .2), near _ (pre .3 .xs-on _), near _ (pre .3 .ys-on _))
 
 returns : tie.Need-returns
 returns c =
