@@ -1,61 +1,24 @@
 // Replays tools/reader_cases.py's drawing files against the reader, and prints how many there were and
 // how many came out otherwise: another verdict, another value anywhere in the drawing.
-use file_drawing::Drawing;
 use file::Verdict;
+use file_drawing::Drawing;
 use file_records::MstEdge;
 use file_records::Point;
-use libc::STDOUT_FILENO;
-ghost use Prim.Native.Nat.{_+_, _*_, _≤_, _<_};
-
-// No place in the data, and none of a drawing file, is past this.
-const FAR: usize = 1_000_000;
+ghost use Prim.Native.Nat.{_≤_};
 
 // Room for a drawing file of 65,537 bytes.
 const ROOM: usize = 65_600;
 
 const PRIME: u64 = 4_294_967_291;
 
-fn near(place: usize) -> usize
-    ensures { λ r. ⌜ r ≤ 1000000 ⌝ }
-{
-    if place < FAR {
-        return place;
-    }
-    FAR
-}
-
-// The numbers in 1, 2 and 4 bytes at a place of the data, as if it went on with zeros.
-fn one(data: &[u8], at: usize) -> u64
-    ensures { λ r. ⌜ r < 256 ⌝ }
-{
-    if at < data.len() {
-        let byte = data[at];
-        return byte as u64;
-    }
-    0
-}
-
-fn two(data: &[u8], at: usize) -> u64
-    requires { ⌜ at ≤ 1000000 ⌝ }
-    ensures { λ r. ⌜ r < 65536 ⌝ }
-{
-    let low = one(data, at);
-    let high = one(data, at + 1);
-    low + 256 * high
-}
-
-fn four(data: &[u8], at: usize) -> u64
-    requires { ⌜ at ≤ 1000000 ⌝ }
-    ensures { λ r. ⌜ r < 4294967296 ⌝ }
-{
-    let low = two(data, at);
-    let high = two(data, near(at + 2));
-    low + 65536 * high
+// The number in so many bytes that lie some bytes behind a place of the data.
+fn number(data: &[u8], at: usize, by: usize, count: usize) -> u64 {
+    test_data::number(data, test_data::past(at, by), count)
 }
 
 // Puts one copy of a run's bytes behind the bytes that are there, as far as there is room.
 fn copy(data: &[u8], from: usize, count: usize, file: &mut [u8; 65600], filled: usize) -> usize
-    requires { ⌜ (from ≤ 1000000) × (count < 65536) × (filled ≤ 65600) ⌝ }
+    requires { ⌜ filled ≤ 65600 ⌝ }
     ensures { λ r. ⌜ r ≤ 65600 ⌝ }
 {
     let mut end = filled;
@@ -64,7 +27,7 @@ fn copy(data: &[u8], from: usize, count: usize, file: &mut [u8; 65600], filled: 
         if end >= ROOM {
             return end;
         }
-        file[end] = (one(data, from + i) % 256) as u8;
+        file[end] = test_data::byte(data, from, i);
         end += 1;
         i += 1;
     }
@@ -79,7 +42,7 @@ fn repeat(
     file: &mut [u8; 65600],
     filled: usize,
 ) -> usize
-    requires { ⌜ (from ≤ 1000000) × (count < 65536) × (filled ≤ 65600) ⌝ }
+    requires { ⌜ filled ≤ 65600 ⌝ }
     ensures { λ r. ⌜ r ≤ 65600 ⌝ }
 {
     let mut end = filled;
@@ -98,63 +61,46 @@ struct Built {
 }
 
 fn build(data: &[u8], at: usize, file: &mut [u8; 65600]) -> Built
-    requires { ⌜ at ≤ 1000000 ⌝ }
-    ensures { λ r. ⌜ (r .len ≤ 65600) × (r .next ≤ 1000000) ⌝ }
+    ensures { λ r. ⌜ r .len ≤ 65600 ⌝ }
 {
-    let mut left = one(data, at);
-    let mut next = near(at + 1);
+    let mut left = number(data, at, 0, 1);
+    let mut next = test_data::past(at, 1);
     let mut len = 0;
     while left > 0 {
-        let times = four(data, next);
-        let count = two(data, near(next + 4)) as usize;
-        let from = near(next + 6);
+        let times = number(data, next, 0, 4);
+        let count = (number(data, next, 4, 2) % 65536) as usize;
+        let from = test_data::past(next, 6);
         len = repeat(data, from, count, times, file, len);
-        next = near(from + count);
+        next = test_data::past(from, count);
         left -= 1;
     }
     Built { len, next }
 }
 
-fn mixed(sum: u64, value: u64) -> u64
-    requires { ⌜ (sum < 4294967296) × (value < 4294967296) ⌝ }
-    ensures { λ r. ⌜ r < 4294967296 ⌝ }
-{
-    (sum * 31 + value) % PRIME
+fn mixed(sum: u64, value: u64) -> u64 {
+    (sum % PRIME * 31 + value % PRIME) % PRIME
 }
 
-fn wide16(x: u16) -> u64
-    ensures { λ r. ⌜ r < 65536 ⌝ }
-{
-    x as u64
+fn wide(place: u32) -> u64 {
+    place as u64
 }
 
-fn wide32(x: u32) -> u64
-    ensures { λ r. ⌜ r < 4294967296 ⌝ }
-{
-    x as u64
-}
-
-fn mixed_starts(starts: &[u16; 257], sum: u64) -> u64
-    requires { ⌜ sum < 4294967296 ⌝ }
-    ensures { λ r. ⌜ r < 4294967296 ⌝ }
-{
+fn mixed_starts(starts: &[u16; 257], sum: u64) -> u64 {
     let mut total = sum;
     let mut i = 0;
     while i < 257 {
-        total = mixed(total, wide16(starts[i]));
+        let start = widen::wide(starts[i]);
+        total = mixed(total, start as u64);
         i += 1;
     }
     total
 }
 
-fn mixed_places(places: &[u32; 1024], sum: u64) -> u64
-    requires { ⌜ sum < 4294967296 ⌝ }
-    ensures { λ r. ⌜ r < 4294967296 ⌝ }
-{
+fn mixed_places(places: &[u32; 1024], sum: u64) -> u64 {
     let mut total = sum;
     let mut i = 0;
     while i < 1024 {
-        total = mixed(total, wide32(places[i]));
+        total = mixed(total, wide(places[i]));
         i += 1;
     }
     total
@@ -166,52 +112,48 @@ fn checksum(d: Drawing) -> u64 {
     let xs = d.xs;
     let ys = d.ys;
     let settings = d.settings;
-    let sum = mixed(0, wide32(settings.width));
-    let sum = mixed(sum, wide32(settings.height));
-    let sum = mixed(sum, settings.pairing as u64 % 256);
-    let sum = mixed(sum, settings.flags as u64 % 256);
-    let sum = mixed(sum, d.lines as u64 % 4_294_967_296);
+    let sum = mixed(0, settings.width as u64);
+    let sum = mixed(sum, settings.height as u64);
+    let sum = mixed(sum, settings.pairing as u64);
+    let sum = mixed(sum, settings.flags as u64);
+    let sum = mixed(sum, d.lines as u64);
     let sum = mixed_starts(&starts, sum);
-    let sum = mixed(sum, d.points as u64 % 4_294_967_296);
+    let sum = mixed(sum, d.points as u64);
     let sum = mixed_places(&xs, sum);
     let sum = mixed_places(&ys, sum);
-    mixed(sum, d.link_count as u64 % 4_294_967_296)
+    mixed(sum, d.link_count as u64)
 }
 
-// Whether a point is the one at two places of the grid.
-fn point_right(p: Point, x: u64, y: u64) -> bool
-    requires { ⌜ (x < 4294967296) × (y < 4294967296) ⌝ }
-{
+// Whether a point is the one at the two places of the grid that the data has.
+fn point_right(data: &[u8], at: usize, by: usize, p: Point) -> bool {
+    let x = number(data, at, by, 4) % 4_294_967_296;
+    let y = number(data, test_data::past(at, 4), by, 4) % 4_294_967_296;
     if p.x == grid::coordinate(x as u32) {
         return p.y == grid::coordinate(y as u32);
     }
     false
 }
 
-fn names_right(data: &[u8], at: usize, e: MstEdge) -> bool
-    requires { ⌜ at ≤ 1000000 ⌝ }
-{
-    if two(data, at) != e.poly_a as u64 {
+fn names_right(data: &[u8], at: usize, e: MstEdge) -> bool {
+    if number(data, at, 0, 2) != e.poly_a as u64 {
         return false;
     }
-    if two(data, near(at + 2)) != e.seg_a as u64 {
+    if number(data, at, 2, 2) != e.seg_a as u64 {
         return false;
     }
-    if two(data, near(at + 4)) != e.poly_b as u64 {
+    if number(data, at, 4, 2) != e.poly_b as u64 {
         return false;
     }
-    two(data, near(at + 6)) == e.seg_b as u64
+    number(data, at, 6, 2) == e.seg_b as u64
 }
 
 // Whether a link is the one that the data has at a place.
-fn edge_right(data: &[u8], at: usize, e: MstEdge) -> bool
-    requires { ⌜ at ≤ 1000000 ⌝ }
-{
+fn edge_right(data: &[u8], at: usize, e: MstEdge) -> bool {
     if names_right(data, at, e) {
         let a = e.point_a;
-        if point_right(a, four(data, near(at + 8)), four(data, near(at + 12))) {
+        if point_right(data, at, 8, a) {
             let b = e.point_b;
-            return point_right(b, four(data, near(at + 16)), four(data, near(at + 20)));
+            return point_right(data, at, 16, b);
         }
     }
     false
@@ -238,15 +180,12 @@ fn edge_empty(e: MstEdge) -> bool {
 }
 
 // Whether the links are the data's, and the places behind them are empty.
-fn edges_right(data: &[u8], at: usize, count: u64, edges: [MstEdge; 255]) -> bool
-    requires { ⌜ at ≤ 1000000 ⌝ }
-{
+fn edges_right(data: &[u8], at: usize, count: u64, edges: [MstEdge; 255]) -> bool {
     let mut i: usize = 0;
     while i < 255 {
         let e = edges[i];
         if (i as u64) < count {
-            let place = near(at + 24 * i);
-            if !edge_right(data, place, e) {
+            if !edge_right(data, test_data::past(at, 24 * i), e) {
                 return false;
             }
         } else {
@@ -259,7 +198,7 @@ fn edges_right(data: &[u8], at: usize, count: u64, edges: [MstEdge; 255]) -> boo
     true
 }
 
-fn number(v: Verdict) -> u64 {
+fn refusal(v: Verdict) -> u64 {
     match v {
         Verdict::Refused(n) => n as u64,
         Verdict::Accepted => 0,
@@ -268,23 +207,23 @@ fn number(v: Verdict) -> u64 {
 
 // Whether a file is read as the data says at a place.
 fn right(data: &[u8], at: usize, file: [u8; 65600], len: usize) -> bool
-    requires { ⌜ (at ≤ 1000000) × (len ≤ 65600) ⌝ }
+    requires { ⌜ len ≤ 65600 ⌝ }
 {
     let reading = file::read(&file[..len]);
     let verdict = reading.verdict;
-    if number(verdict) != one(data, at) {
+    if refusal(verdict) != number(data, at, 0, 1) {
         return false;
     }
     let drawing = reading.drawing;
-    if checksum(drawing) != four(data, near(at + 1)) {
+    if checksum(drawing) != number(data, at, 1, 4) {
         return false;
     }
-    let count = two(data, near(at + 5));
+    let count = number(data, at, 5, 2);
     if drawing.link_count as u64 != count {
         return false;
     }
     let edges = drawing.links;
-    edges_right(data, near(at + 7), count, edges)
+    edges_right(data, test_data::past(at, 7), count, edges)
 }
 
 // Where the next case starts, and 1 where this one came out otherwise.
@@ -294,15 +233,14 @@ struct Step {
 }
 
 fn run(data: &[u8], at: usize) -> Step
-    requires { ⌜ at ≤ 1000000 ⌝ }
-    ensures { λ r. ⌜ (r .next ≤ 1000000) × (r .wrong ≤ 1) ⌝ }
+    ensures { λ r. ⌜ r .wrong ≤ 1 ⌝ }
 {
     let mut file = [0u8; 65600];
     let built = build(data, at, &mut file);
     let len = built.len;
     let answer = built.next;
-    let links = two(data, near(answer + 5)) as usize;
-    let next = near(answer + 7 + 24 * links);
+    let links = (number(data, answer, 5, 2) % 65536) as usize;
+    let next = test_data::past(answer, 7 + 24 * links);
     if right(data, answer, file, len) {
         return Step { next, wrong: 0 };
     }
@@ -310,9 +248,7 @@ fn run(data: &[u8], at: usize) -> Step
 }
 
 // How many of the data's cases come out otherwise.
-fn count_wrong(data: &[u8], cases: u64) -> u64
-    requires { ⌜ cases < 65536 ⌝ }
-{
+fn count_wrong(data: &[u8], cases: u64) -> u64 {
     let mut found: u64 = 0;
     let mut at: usize = 2;
     let mut i: u64 = 0;
@@ -326,20 +262,9 @@ fn count_wrong(data: &[u8], cases: u64) -> u64
 }
 
 fn main() {
-    let path = b"cases";
-    let fd = os::open_read(path);
-    if fd < 0 {
-        os::fail(path);
-        return;
-    }
     let mut buf = [0u8; 131072];
-    let n = io::read_full(fd, &mut buf);
-    libc::close(fd);
+    let n = test_data::load(b"cases", &mut buf);
     let data = &buf[..n];
-    let cases = two(data, 0);
-    io::write_all(STDOUT_FILENO, b"reader: ");
-    io::print_decimal(STDOUT_FILENO, cases);
-    io::write_all(STDOUT_FILENO, b" files, ");
-    io::print_decimal(STDOUT_FILENO, count_wrong(data, cases));
-    io::write_all(STDOUT_FILENO, b" wrong\n");
+    let cases = number(data, 0, 0, 2);
+    test_data::report(b"reader", cases, b"files", count_wrong(data, cases));
 }

@@ -1,53 +1,38 @@
--- `reader_cases::build` is safe and ends: the measure is how many runs are left. Assumes nothing.
+-- `file_cases::build` is safe and ends: the measure is how many runs are left. Assumes nothing.
 use Prim.Native.Nat.{_≤_}
 use borrow.Author.Needs.{needs}
 use Rattle.file_cases.proofs.build.Statement.{statement}
 use Rattle.file_cases.proofs.build.Tie as tie
 
 abbrev Inv-loop : tie.InvT-loop
-Inv-loop «data» at file₀ left₀ next₀ len₀ file left next len = (len ≤ 65600) × (next ≤ 1000000)
+Inv-loop «data» at file₀ left₀ next₀ len₀ file left next len = len ≤ 65600
 
 abbrev μ-loop : tie.MeasureT-loop
 μ-loop «data» at file₀ left₀ next₀ len₀ file left next len = left
 
-one-requires : tie.Need-one-requires Inv-loop μ-loop
-one-requires c κs = search needs
+number-requires : tie.Need-number-requires Inv-loop μ-loop
+number-requires c κs = search needs
 
-add-near : tie.Need-add-near Inv-loop μ-loop
-add-near c = search needs
-
-near-requires : tie.Need-near-requires Inv-loop μ-loop
-near-requires c κs = search needs
+past-requires : tie.Need-past-requires Inv-loop μ-loop
+past-requires c κs = search needs
 
 loop-holds : tie.Need-loop-holds Inv-loop μ-loop
 loop-holds c = search needs
 
-four-requires : tie.Need-four-requires Inv-loop μ-loop
-four-requires c κs = search needs
+number-requires-2 : tie.Need-number-requires-2 Inv-loop μ-loop
+number-requires-2 c κs = search needs
 
-add-near-2 : tie.Need-add-near-2 Inv-loop μ-loop
-add-near-2 c = search needs
+number-requires-3 : tie.Need-number-requires-3 Inv-loop μ-loop
+number-requires-3 c κs = search needs
 
-near-requires-2 : tie.Need-near-requires-2 Inv-loop μ-loop
-near-requires-2 c κs = search needs
-
-two-requires : tie.Need-two-requires Inv-loop μ-loop
-two-requires c κs = search needs
-
-add-near-3 : tie.Need-add-near-3 Inv-loop μ-loop
-add-near-3 c = search needs
-
-near-requires-3 : tie.Need-near-requires-3 Inv-loop μ-loop
-near-requires-3 c κs = search needs
+past-requires-2 : tie.Need-past-requires-2 Inv-loop μ-loop
+past-requires-2 c κs = search needs
 
 repeat-requires : tie.Need-repeat-requires Inv-loop μ-loop
 repeat-requires c κs = search needs
 
-add-near-4 : tie.Need-add-near-4 Inv-loop μ-loop
-add-near-4 c = search needs
-
-near-requires-4 : tie.Need-near-requires-4 Inv-loop μ-loop
-near-requires-4 c κs = search needs
+past-requires-3 : tie.Need-past-requires-3 Inv-loop μ-loop
+past-requires-3 c κs = search needs
 
 sub-left : tie.Need-sub-left Inv-loop μ-loop
 sub-left c = search needs
@@ -67,19 +52,14 @@ build-spec =
     (tie.spec
     Inv-loop
     μ-loop
-    one-requires
-    add-near
-    near-requires
+    number-requires
+    past-requires
     loop-holds
-    four-requires
-    add-near-2
-    near-requires-2
-    two-requires
-    add-near-3
-    near-requires-3
+    number-requires-2
+    number-requires-3
+    past-requires-2
     repeat-requires
-    add-near-4
-    near-requires-4
+    past-requires-3
     sub-left
     loop-less
     loop-again

@@ -1,11 +1,11 @@
--- `reader_cases::copy` is safe and ends: the measure is what is left of the run. Assumes nothing.
+-- `file_cases::copy` is safe and ends: the measure is how many bytes are left. Assumes nothing.
 use Prim.Native.Nat.{_≤_, _-_}
 use borrow.Author.Needs.{needs}
 use Rattle.file_cases.proofs.copy.Statement.{statement}
 use Rattle.file_cases.proofs.copy.Tie as tie
 
 abbrev Inv-loop : tie.InvT-loop
-Inv-loop «data» from count file₀ filled end₀ i₀ file end i = (i ≤ count) × (end ≤ 65600)
+Inv-loop «data» from count file₀ filled end₀ i₀ file end i = end ≤ 65600
 
 abbrev μ-loop : tie.MeasureT-loop
 μ-loop «data» from count file₀ filled end₀ i₀ file end i = count - i
@@ -16,14 +16,8 @@ loop-holds c = search needs
 returns : tie.Need-returns Inv-loop μ-loop
 returns c = search needs
 
-add-one : tie.Need-add-one Inv-loop μ-loop
-add-one c = search needs
-
-one-requires : tie.Need-one-requires Inv-loop μ-loop
-one-requires c κs = search needs
-
-cast-file : tie.Need-cast-file Inv-loop μ-loop
-cast-file c = search needs
+byte-requires : tie.Need-byte-requires Inv-loop μ-loop
+byte-requires c κs = search needs
 
 element-write-file : tie.Need-element-write-file Inv-loop μ-loop
 element-write-file c = search needs
@@ -51,9 +45,7 @@ copy-spec =
     μ-loop
     loop-holds
     returns
-    add-one
-    one-requires
-    cast-file
+    byte-requires
     element-write-file
     add-end
     add-i

@@ -1,11 +1,11 @@
--- `reader_cases::count_wrong` is safe and ends: the measure is how many cases are left. Assumes nothing.
+-- `file_cases::count_wrong` is safe and ends: the measure is how many cases are left. Assumes nothing.
 use Prim.Native.Nat.{_≤_, _-_}
 use borrow.Author.Needs.{needs}
 use Rattle.file_cases.proofs.count_wrong.Statement.{statement}
 use Rattle.file_cases.proofs.count_wrong.Tie as tie
 
 abbrev Inv-loop : tie.InvT-loop
-Inv-loop «data» cases found₀ at₀ i₀ found at i = (i ≤ cases) × (found ≤ i) × (at ≤ 1000000)
+Inv-loop «data» cases found₀ at₀ i₀ found at i = (i ≤ cases) × (found ≤ i)
 
 abbrev μ-loop : tie.MeasureT-loop
 μ-loop «data» cases found₀ at₀ i₀ found at i = cases - i

@@ -1,4 +1,4 @@
--- `reader_cases::edges_right` is safe and ends: the measure is what is left of the array. Assumes nothing.
+-- `file_cases::edges_right` is safe and ends: the measure is what is left of the array. Assumes nothing.
 use Prim.Native.Nat.{_≤_, _-_}
 use borrow.Author.Needs.{needs}
 use Rattle.file_cases.proofs.edges_right.Statement.{statement}
@@ -19,14 +19,11 @@ mul-e c = search needs
 array-copy-out-e : tie.Need-array-copy-out-e Inv-loop μ-loop
 array-copy-out-e c = search needs
 
-mul-near : tie.Need-mul-near Inv-loop μ-loop
-mul-near c = search needs
+mul-past : tie.Need-mul-past Inv-loop μ-loop
+mul-past c = search needs
 
-add-near : tie.Need-add-near Inv-loop μ-loop
-add-near c = search needs
-
-near-requires : tie.Need-near-requires Inv-loop μ-loop
-near-requires c κs = search needs
+past-requires : tie.Need-past-requires Inv-loop μ-loop
+past-requires c κs = search needs
 
 edge-right-requires : tie.Need-edge-right-requires Inv-loop μ-loop
 edge-right-requires c κs = search needs
@@ -61,9 +58,8 @@ edges-right-spec =
     loop-holds
     mul-e
     array-copy-out-e
-    mul-near
-    add-near
-    near-requires
+    mul-past
+    past-requires
     edge-right-requires
     returns
     edge-empty-requires

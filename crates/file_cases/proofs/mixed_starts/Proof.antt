@@ -1,11 +1,11 @@
--- `reader_cases::mixed_starts` is safe and ends: the measure is what is left of the array. Assumes nothing.
-use Prim.Native.Nat.{_≤_, _<_, _-_}
+-- `file_cases::mixed_starts` is safe and ends: the measure is what is left of the array. Assumes nothing.
+use Prim.Native.Nat.{_≤_, _-_}
 use borrow.Author.Needs.{needs}
 use Rattle.file_cases.proofs.mixed_starts.Statement.{statement}
 use Rattle.file_cases.proofs.mixed_starts.Tie as tie
 
 abbrev Inv-loop : tie.InvT-loop
-Inv-loop starts sum total₀ i₀ total i = (i ≤ 257) × (total < 4294967296)
+Inv-loop starts sum total₀ i₀ total i = i ≤ 257
 
 abbrev μ-loop : tie.MeasureT-loop
 μ-loop starts sum total₀ i₀ total i = 257 - i
@@ -13,14 +13,14 @@ abbrev μ-loop : tie.MeasureT-loop
 loop-holds : tie.Need-loop-holds Inv-loop μ-loop
 loop-holds c = search needs
 
-mul-wide16 : tie.Need-mul-wide16 Inv-loop μ-loop
-mul-wide16 c = search needs
+mul-wide : tie.Need-mul-wide Inv-loop μ-loop
+mul-wide c = search needs
 
-element-copy-out-wide16 : tie.Need-element-copy-out-wide16 Inv-loop μ-loop
-element-copy-out-wide16 c = search needs
+element-copy-out-wide : tie.Need-element-copy-out-wide Inv-loop μ-loop
+element-copy-out-wide c = search needs
 
-wide16-requires : tie.Need-wide16-requires Inv-loop μ-loop
-wide16-requires c κs = search needs
+wide-requires : tie.Need-wide-requires Inv-loop μ-loop
+wide-requires c κs = search needs
 
 mixed-requires : tie.Need-mixed-requires Inv-loop μ-loop
 mixed-requires c κs = search needs
@@ -44,9 +44,9 @@ mixed-starts-spec =
     Inv-loop
     μ-loop
     loop-holds
-    mul-wide16
-    element-copy-out-wide16
-    wide16-requires
+    mul-wide
+    element-copy-out-wide
+    wide-requires
     mixed-requires
     add-i
     loop-less

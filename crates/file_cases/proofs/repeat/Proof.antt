@@ -1,4 +1,4 @@
--- `reader_cases::repeat` is safe and ends: the measure is how many copies are left. Assumes nothing.
+-- `file_cases::repeat` is safe and ends: the measure is how many copies are left. Assumes nothing.
 use Prim.Native.Nat.{_≤_}
 use borrow.Author.Needs.{needs}
 use Rattle.file_cases.proofs.repeat.Statement.{statement}

@@ -1,4 +1,4 @@
--- `reader_cases::right` is safe: the part of the array that is read is as long as it says. Assumes nothing.
+-- `file_cases::right` is safe: the part of the array that is read is as long as it says. Assumes nothing.
 use mathlib.Core.Path.{sym}
 use lib.Seq.{length-take-le}
 use borrow.Author.Needs.{needs}
@@ -14,11 +14,11 @@ slice-aggregate-read c = sym (length-take-le (c .before .before .args .len) (c .
 read-requires : tie.Need-read-requires
 read-requires c κs = search needs
 
+refusal-requires : tie.Need-refusal-requires
+refusal-requires c κs = search needs
+
 number-requires : tie.Need-number-requires
 number-requires c κs = search needs
-
-one-requires : tie.Need-one-requires
-one-requires c κs = search needs
 
 returns : tie.Need-returns
 returns c = search needs
@@ -26,35 +26,20 @@ returns c = search needs
 checksum-requires : tie.Need-checksum-requires
 checksum-requires c κs = search needs
 
-add-near : tie.Need-add-near
-add-near c = search needs
-
-near-requires : tie.Need-near-requires
-near-requires c κs = search needs
-
-four-requires : tie.Need-four-requires
-four-requires c κs = search needs
+number-requires-2 : tie.Need-number-requires-2
+number-requires-2 c κs = search needs
 
 returns-2 : tie.Need-returns-2
 returns-2 c = search needs
 
-add-near-2 : tie.Need-add-near-2
-add-near-2 c = search needs
-
-near-requires-2 : tie.Need-near-requires-2
-near-requires-2 c κs = search needs
-
-two-requires : tie.Need-two-requires
-two-requires c κs = search needs
+number-requires-3 : tie.Need-number-requires-3
+number-requires-3 c κs = search needs
 
 returns-3 : tie.Need-returns-3
 returns-3 c = search needs
 
-add-near-3 : tie.Need-add-near-3
-add-near-3 c = search needs
-
-near-requires-3 : tie.Need-near-requires-3
-near-requires-3 c κs = search needs
+past-requires : tie.Need-past-requires
+past-requires c κs = search needs
 
 edges-right-requires : tie.Need-edges-right-requires
 edges-right-requires c κs = search needs
@@ -69,19 +54,14 @@ right-spec =
     array-share-prefix-file
     slice-aggregate-read
     read-requires
+    refusal-requires
     number-requires
-    one-requires
     returns
     checksum-requires
-    add-near
-    near-requires
-    four-requires
+    number-requires-2
     returns-2
-    add-near-2
-    near-requires-2
-    two-requires
+    number-requires-3
     returns-3
-    add-near-3
-    near-requires-3
+    past-requires
     edges-right-requires
     returns-4)
