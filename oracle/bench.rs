@@ -1,0 +1,184 @@
+//! Times the published planner and the proved one on the same drawings, in one process.
+
+use crate::{library_hypot, machine_root, port, Lent, Phase};
+use std::hint::black_box;
+
+#[repr(C)]
+struct Clock {
+    seconds: i64,
+    nanoseconds: i64,
+}
+
+unsafe extern "C" {
+    fn clock_gettime(clock: i32, now: *mut Clock) -> i32;
+}
+
+/// Processor time of this thread in nanoseconds, which other work on the machine moves less than the time of day.
+fn now() -> f64 {
+    let mut clock = Clock { seconds: 0, nanoseconds: 0 };
+    // 3 is CLOCK_THREAD_CPUTIME_ID.
+    let failed = unsafe { clock_gettime(3, &mut clock) };
+    assert!(failed == 0, "no clock");
+    clock.seconds as f64 * 1e9 + clock.nanoseconds as f64
+}
+
+const ROUNDS: usize = 9;
+/// What a round takes at least, unless a single call takes longer.
+const ROUND: f64 = 4e6;
+
+/// Nanoseconds a call of each, the least of several rounds in which they take turns.
+fn times(calls: &mut [&mut dyn FnMut()]) -> Vec<f64> {
+    let spent = |call: &mut dyn FnMut(), count: usize| {
+        let start = now();
+        for _ in 0..count {
+            call();
+        }
+        now() - start
+    };
+    let counts: Vec<usize> = calls
+        .iter_mut()
+        .map(|call| {
+            let mut count = 1;
+            while spent(call, count) < ROUND / 4.0 {
+                count *= 2;
+            }
+            count * 4
+        })
+        .collect();
+    let mut least = vec![f64::INFINITY; calls.len()];
+    for _ in 0..ROUNDS {
+        for (i, call) in calls.iter_mut().enumerate() {
+            // A call that takes a good part of a second is made once.
+            let count = if least[i] > ROUND { 1 } else { counts[i] };
+            least[i] = least[i].min(spent(call, count) / count as f64);
+        }
+    }
+    least
+}
+
+pub fn run(what: &str) {
+    match what {
+        "--bench" => whole(),
+        "--phases" => phases(),
+        _ => stack(),
+    }
+}
+
+/// One line for each drawing: sizes of its graph, then nanoseconds: the port, the published planner with the C
+/// library's `hypot`, and with the machine's root.
+fn whole() {
+    while let Some((lent, file)) = crate::against::next_drawing() {
+        let mut memory = Memory::new(lent);
+        let found = times(&mut [
+            &mut || drop(black_box(memory.plan(black_box(&file)))),
+            &mut || drop(black_box(library_hypot::plan(black_box(&file), lent))),
+            &mut || drop(black_box(machine_root::plan(black_box(&file), lent))),
+        ]);
+        println!("{} | {}", crate::counts(&file, lent), words(&found));
+    }
+}
+
+const PHASES: [Phase; 7] =
+    [Phase::Read, Phase::Graph, Phase::Odd, Phase::Pairs, Phase::Searches, Phase::Repair, Phase::Line];
+
+/// One line for each drawing: nanoseconds up to the end of each phase of the published planner, with the C library's
+/// `hypot`, then with the machine's root, then of the port as far as its phases are exported.
+fn phases() {
+    while let Some((lent, file)) = crate::against::next_drawing() {
+        let rust: Vec<Vec<f64>> = [library_hypot::until, machine_root::until]
+            .iter()
+            .map(|until| {
+                PHASES.map(|phase| times(&mut [&mut || until(black_box(&file), lent, phase)])[0]).to_vec()
+            })
+            .collect();
+        println!("{} | {} | {} | {}", crate::counts(&file, lent), words(&rust[0]), words(&rust[1]), words(&port_phases(&file, lent)));
+    }
+}
+
+/// What a call of the port is lent.
+struct Memory {
+    floats: Vec<f64>,
+    bytes: Vec<u8>,
+    output: Vec<u8>,
+}
+
+impl Memory {
+    fn new(lent: Lent) -> Self {
+        Memory { floats: vec![1.0; lent.f64_entries], bytes: vec![1; lent.byte_entries], output: vec![1; lent.output_bytes] }
+    }
+
+    fn plan(&mut self, file: &[u8]) -> port::Outcome {
+        port::planned(file, &mut self.floats, &mut self.bytes, &mut self.output)
+    }
+}
+
+#[cfg(not(phases))]
+fn port_phases(_: &[u8], _: Lent) -> Vec<f64> {
+    Vec::new()
+}
+
+#[cfg(phases)]
+unsafe extern "C" {
+    // Each goes from the start to the end of its phase and gives a number that depends on all it made.
+    fn phase_read(file: *const u8, file_len: usize) -> u64;
+    fn phase_graph(file: *const u8, file_len: usize) -> u64;
+    fn phase_odd(file: *const u8, file_len: usize) -> u64;
+    fn phase_pairs(
+        file: *const u8, file_len: usize, floats: *mut f64, floats_len: usize, bytes: *mut u8, bytes_len: usize,
+    ) -> u64;
+    fn phase_repair(
+        file: *const u8, file_len: usize, floats: *mut f64, floats_len: usize, bytes: *mut u8, bytes_len: usize,
+    ) -> u64;
+}
+
+#[cfg(phases)]
+fn port_phases(file: &[u8], lent: Lent) -> Vec<f64> {
+    let mut memory = Memory::new(lent);
+    let (at, len) = (file.as_ptr(), file.len());
+    let (floats, bytes) = (memory.floats.as_mut_ptr(), memory.bytes.as_mut_ptr());
+    let (floats_len, bytes_len) = (lent.f64_entries, lent.byte_entries);
+    // The pointers and lengths are those of the file and of the memory that is lent here.
+    unsafe {
+        let mut found: Vec<f64> = [phase_read, phase_graph, phase_odd]
+            .map(|phase| times(&mut [&mut || drop(black_box(phase(black_box(at), len)))])[0])
+            .to_vec();
+        for phase in [phase_pairs, phase_repair] {
+            found.push(times(&mut [&mut || drop(black_box(phase(black_box(at), len, floats, floats_len, bytes, bytes_len)))])[0]);
+        }
+        found.push(times(&mut [&mut || drop(black_box(memory.plan(black_box(file))))])[0]);
+        found
+    }
+}
+
+fn words(numbers: &[f64]) -> String {
+    numbers.iter().map(|n| format!("{n:.0}")).collect::<Vec<_>>().join(" ")
+}
+
+const PAINT: u64 = 0xA5C3_96E1_5A3C_691E;
+const PAINTED: usize = 3 << 20;
+
+/// One line for each drawing: the bytes of stack that a call of the port reaches down to.
+fn stack() {
+    let work = || {
+        while let Some((lent, file)) = crate::against::next_drawing() {
+            let mut memory = Memory::new(lent);
+            println!("{} | {}", crate::counts(&file, lent), deepest(&mut memory, &file));
+        }
+    };
+    std::thread::Builder::new().stack_size(8 << 20).spawn(work).expect("a thread").join().expect("its end");
+}
+
+#[inline(never)]
+fn deepest(memory: &mut Memory, file: &[u8]) -> usize {
+    let top: *mut u64;
+    unsafe {
+        std::arch::asm!("mov {}, rsp", out(reg) top);
+        let room = PAINTED / 8;
+        // Some words below the stack pointer may be in use; all below them is painted, then looked at from below.
+        for i in 32..room {
+            top.sub(i).write_volatile(PAINT);
+        }
+        drop(black_box(memory.plan(black_box(file))));
+        (32..room).rev().find(|&i| top.sub(i).read_volatile() != PAINT).map_or(0, |i| 8 * i)
+    }
+}
