@@ -53,23 +53,25 @@ pub fn run(mode: Mode) -> bool {
 impl Tally {
     fn compare(&mut self, lender: &mut Lender, file: &[u8], lent: Lent) {
         self.drawings += 1;
-        self.call(lender, file, lent);
+        let wanted = stand_in::plan(file, lent);
+        // Large tables take their time to fill and to look at: where those that are lent suffice, so do smaller ones,
+        // but for one call in 64.
+        let (floats, bytes) = match &wanted {
+            Ok(plan) => needed(file, plan.odd_before),
+            // The tables' lengths do not matter before check 11.
+            Err(1..=10) => (0, 0),
+            Err(_) => (lent.f64_entries, lent.byte_entries),
+        };
+        let more = if self.calls % 64 == 63 { 1 << 40 } else { self.calls % 40 };
+        let lent = Lent {
+            f64_entries: lent.f64_entries.min(floats + more),
+            byte_entries: lent.byte_entries.min(bytes + more),
+            ..lent
+        };
+        self.call(lender, file, lent, wanted);
     }
 
-    fn call(&mut self, lender: &mut Lender, file: &[u8], lent: Lent) {
-        let wanted = stand_in::plan(file, lent);
-        // Large tables take their time to fill and to look at: where those that are lent suffice, so do smaller ones.
-        let lent = match &wanted {
-            Ok(plan) => {
-                let n = plan.odd_before;
-                let needed = if file[14] == 1 && n >= 4 { (1 << n) + n * n } else { 0 };
-                let more = self.calls % 40;
-                Lent { f64_entries: lent.f64_entries.min(needed + more), byte_entries: lent.byte_entries.min(needed + more), ..lent }
-            }
-            // The tables' lengths do not matter before check 11.
-            Err(1..=10) => Lent { f64_entries: lent.f64_entries.min(300), byte_entries: lent.byte_entries.min(300), ..lent },
-            Err(_) => lent,
-        };
+    fn call(&mut self, lender: &mut Lender, file: &[u8], lent: Lent, wanted: Result<stand_in::Plan, u32>) {
         self.calls += 1;
         *self.answers.entry(wanted.as_ref().err().copied().unwrap_or(0)).or_default() += 1;
         let (got, written) = lender.plan(file, lent);
@@ -89,33 +91,35 @@ impl Tally {
         }
     }
 
+    /// Drawings that are refused with every table and output give nothing to compare here.
     fn compare_sizes(&mut self, lender: &mut Lender, file: &[u8]) {
         self.drawings += 1;
         let most = Lent { f64_entries: (1 << 20) + 400, byte_entries: 1 << 20, output_bytes: 6 + 16 * 4001 };
         let Ok(plan) = stand_in::plan(file, most) else {
-            return self.call(lender, file, most);
+            return;
         };
         let (n, output) = (plan.odd_before, 6 + 16 * plan.points.len());
-        let (floats, bytes) = if file[14] == 1 && n >= 4 { ((1 << n) + n * n, 1 << n) } else { (0, 0) };
+        let (floats, bytes) = needed(file, n);
+        let mut call = |lent| self.call(lender, file, lent, stand_in::plan(file, lent));
         let enough = Lent { f64_entries: floats, byte_entries: bytes, output_bytes: output };
         // Optimal with many odd nodes takes the published planner long.
         let reach = if n > 12 && floats > 0 { 2 } else { 20 };
         if floats > 0 {
             for short in [0, 1, n * n, 4 * n, 1 << (n - 1), 1 << n] {
-                self.call(lender, file, Lent { f64_entries: short, ..enough });
-                self.call(lender, file, Lent { byte_entries: short.min(bytes), ..enough });
+                call(Lent { f64_entries: short, ..enough });
+                call(Lent { byte_entries: short.min(bytes), ..enough });
             }
-            self.call(lender, file, Lent { f64_entries: floats - 1, byte_entries: bytes - 1, ..enough });
-            self.call(lender, file, Lent { f64_entries: floats - 1, output_bytes: output - 1, ..enough });
+            call(Lent { f64_entries: floats - 1, byte_entries: bytes - 1, ..enough });
+            call(Lent { f64_entries: floats - 1, output_bytes: output - 1, ..enough });
         }
         for size in floats.saturating_sub(reach)..=floats + reach {
-            self.call(lender, file, Lent { f64_entries: size, ..enough });
+            call(Lent { f64_entries: size, ..enough });
         }
         for size in bytes.saturating_sub(reach)..=bytes + reach {
-            self.call(lender, file, Lent { byte_entries: size, ..enough });
+            call(Lent { byte_entries: size, ..enough });
         }
         for size in (0..reach).chain(output.saturating_sub(reach)..=output + reach) {
-            self.call(lender, file, Lent { output_bytes: size, ..enough });
+            call(Lent { output_bytes: size, ..enough });
         }
     }
 
@@ -127,6 +131,12 @@ impl Tally {
             println!("  smallest: {lent:?}, file {}", hex(file));
         }
     }
+}
+
+/// The entries of both tables that check 11 asks for, of a file that passed check 10 with `n` odd nodes.
+fn needed(file: &[u8], n: usize) -> (usize, usize) {
+    let is_optimal = file[14] == 1;
+    if is_optimal && n >= 4 { ((1 << n) + n * n, 1 << n) } else { (0, 0) }
 }
 
 /// The kind 4 record.

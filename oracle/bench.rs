@@ -27,7 +27,7 @@ const ROUNDS: usize = 9;
 const ROUND: f64 = 4e6;
 
 /// Nanoseconds a call of each, the least of several rounds in which they take turns.
-fn times(calls: &mut [&mut dyn FnMut()]) -> Vec<f64> {
+fn times(calls: &mut [Box<dyn FnMut() + '_>]) -> Vec<f64> {
     let spent = |call: &mut dyn FnMut(), count: usize| {
         let start = now();
         for _ in 0..count {
@@ -39,18 +39,19 @@ fn times(calls: &mut [&mut dyn FnMut()]) -> Vec<f64> {
         .iter_mut()
         .map(|call| {
             let mut count = 1;
-            while spent(call, count) < ROUND / 4.0 {
+            while spent(call, count) < ROUND / 2.0 {
                 count *= 2;
             }
-            count * 4
+            count
         })
         .collect();
     let mut least = vec![f64::INFINITY; calls.len()];
-    for _ in 0..ROUNDS {
+    for round in 0..ROUNDS {
         for (i, call) in calls.iter_mut().enumerate() {
-            // A call that takes a good part of a second is made once.
-            let count = if least[i] > ROUND { 1 } else { counts[i] };
-            least[i] = least[i].min(spent(call, count) / count as f64);
+            // Calls that take a good part of a second are made a few times only.
+            if round < 3 || least[i] < 25.0 * ROUND {
+                least[i] = least[i].min(spent(call, counts[i]) / counts[i] as f64);
+            }
         }
     }
     least
@@ -70,9 +71,9 @@ fn whole() {
     while let Some((lent, file)) = crate::against::next_drawing() {
         let mut memory = Memory::new(lent);
         let found = times(&mut [
-            &mut || drop(black_box(memory.plan(black_box(&file)))),
-            &mut || drop(black_box(library_hypot::plan(black_box(&file), lent))),
-            &mut || drop(black_box(machine_root::plan(black_box(&file), lent))),
+            Box::new(|| drop(black_box(memory.plan(black_box(&file))))),
+            Box::new(|| drop(black_box(library_hypot::plan(black_box(&file), lent)))),
+            Box::new(|| drop(black_box(machine_root::plan(black_box(&file), lent)))),
         ]);
         println!("{} | {}", crate::counts(&file, lent), words(&found));
     }
@@ -81,17 +82,23 @@ fn whole() {
 const PHASES: [Phase; 7] =
     [Phase::Read, Phase::Graph, Phase::Odd, Phase::Pairs, Phase::Searches, Phase::Repair, Phase::Line];
 
-/// One line for each drawing: nanoseconds up to the end of each phase of the published planner, with the C library's
-/// `hypot`, then with the machine's root, then of the port as far as its phases are exported.
+/// One line for each drawing: nanoseconds from the start to the end of each phase of the published planner, with the
+/// C library's `hypot`, then with the machine's root, then of the port if its phases are linked in.
 fn phases() {
     while let Some((lent, file)) = crate::against::next_drawing() {
-        let rust: Vec<Vec<f64>> = [library_hypot::until, machine_root::until]
-            .iter()
-            .map(|until| {
-                PHASES.map(|phase| times(&mut [&mut || until(black_box(&file), lent, phase)])[0]).to_vec()
-            })
-            .collect();
-        println!("{} | {} | {} | {}", crate::counts(&file, lent), words(&rust[0]), words(&rust[1]), words(&port_phases(&file, lent)));
+        let mut memory = Memory::new(lent);
+        let mut calls: Vec<Box<dyn FnMut() + '_>> = Vec::new();
+        for until in [library_hypot::until, machine_root::until] {
+            for phase in PHASES {
+                let file = &file;
+                calls.push(Box::new(move || until(black_box(file), lent, phase)));
+            }
+        }
+        calls.extend(port_phases(&file, &mut memory));
+        let found = times(&mut calls);
+        let (library, rest) = found.split_at(PHASES.len());
+        let (machine, port) = rest.split_at(PHASES.len());
+        println!("{} | {} | {} | {}", crate::counts(&file, lent), words(library), words(machine), words(port));
     }
 }
 
@@ -113,7 +120,7 @@ impl Memory {
 }
 
 #[cfg(not(phases))]
-fn port_phases(_: &[u8], _: Lent) -> Vec<f64> {
+fn port_phases<'a>(_: &'a [u8], _: &'a mut Memory) -> Vec<Box<dyn FnMut() + 'a>> {
     Vec::new()
 }
 
@@ -132,22 +139,23 @@ unsafe extern "C" {
 }
 
 #[cfg(phases)]
-fn port_phases(file: &[u8], lent: Lent) -> Vec<f64> {
-    let mut memory = Memory::new(lent);
-    let (at, len) = (file.as_ptr(), file.len());
-    let (floats, bytes) = (memory.floats.as_mut_ptr(), memory.bytes.as_mut_ptr());
-    let (floats_len, bytes_len) = (lent.f64_entries, lent.byte_entries);
-    // The pointers and lengths are those of the file and of the memory that is lent here.
-    unsafe {
-        let mut found: Vec<f64> = [phase_read, phase_graph, phase_odd]
-            .map(|phase| times(&mut [&mut || drop(black_box(phase(black_box(at), len)))])[0])
-            .to_vec();
-        for phase in [phase_pairs, phase_repair] {
-            found.push(times(&mut [&mut || drop(black_box(phase(black_box(at), len, floats, floats_len, bytes, bytes_len)))])[0]);
-        }
-        found.push(times(&mut [&mut || drop(black_box(memory.plan(black_box(file))))])[0]);
-        found
+fn port_phases<'a>(file: &'a [u8], memory: &'a mut Memory) -> Vec<Box<dyn FnMut() + 'a>> {
+    let (floats, floats_len) = (memory.floats.as_mut_ptr(), memory.floats.len());
+    let (bytes, bytes_len) = (memory.bytes.as_mut_ptr(), memory.bytes.len());
+    let mut calls: Vec<Box<dyn FnMut() + 'a>> = Vec::new();
+    // The pointers and lengths are those of the file and of the memory that is lent, and the calls are made in turn.
+    for phase in [phase_read, phase_graph, phase_odd] {
+        calls.push(Box::new(move || {
+            black_box(unsafe { phase(black_box(file).as_ptr(), file.len()) });
+        }));
     }
+    for phase in [phase_pairs, phase_repair] {
+        calls.push(Box::new(move || {
+            black_box(unsafe { phase(black_box(file).as_ptr(), file.len(), floats, floats_len, bytes, bytes_len) });
+        }));
+    }
+    calls.push(Box::new(move || drop(black_box(memory.plan(black_box(file))))));
+    calls
 }
 
 fn words(numbers: &[f64]) -> String {
