@@ -19,7 +19,7 @@ import drawing as d
 from generate import KINDS
 
 # The part of COUNT that is made of the kinds that take long to make or to plan.
-SHARE = dict(comb=1 / 400, big=1 / 400, honeycomb=1 / 40, near=1 / 20, lace=1 / 10, edges=1 / 10, optimal=1 / 5, empty=1 / 5)
+SHARE = dict(comb=1 / 100, big=1 / 100, honeycomb=1 / 20, near=1 / 5, lace=1 / 4, edges=1 / 4, optimal=1 / 2)
 
 
 def main():

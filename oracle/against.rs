@@ -1,7 +1,7 @@
 //! The published planner and the proved one on the same drawings, in one process: whole answers, every byte of what
 //! was lent. The drawings come in batch form on standard input and are read one by one.
 
-use crate::port::Lender;
+use crate::port::{Lender, MOST_ENTRIES};
 use crate::{stand_in, Lent};
 use std::collections::BTreeMap;
 use std::io::Read;
@@ -64,8 +64,8 @@ impl Tally {
         };
         let more = if self.calls % 64 == 63 { 1 << 40 } else { self.calls % 40 };
         let lent = Lent {
-            f64_entries: lent.f64_entries.min(floats + more),
-            byte_entries: lent.byte_entries.min(bytes + more),
+            f64_entries: lent.f64_entries.min(floats + more).min(MOST_ENTRIES),
+            byte_entries: lent.byte_entries.min(bytes + more).min(MOST_ENTRIES),
             ..lent
         };
         self.call(lender, file, lent, wanted);

@@ -103,7 +103,7 @@ pub struct Lender {
 }
 
 const MOST_FILE: usize = 80_000;
-const MOST_ENTRIES: usize = (1 << 20) + 1024;
+pub const MOST_ENTRIES: usize = (1 << 20) + 1024;
 const MOST_OUTPUT: usize = 6 + 16 * 4100;
 
 impl Lender {

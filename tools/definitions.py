@@ -8,7 +8,7 @@ repository, for a scratch repository of the definitions and one crate more: `rt 
 drawing and N theorems to a file, that the definition `plan` gives its answer for just what the case says is lent: whole,
 with every byte of the output. Some cases take more steps than the checker allows, or too long; they are counted and
 named, and left to the program that replays the list with the planner's code:
-- files of more than BYTES bytes,
+- files of more than BYTES bytes that pass checks 1 to 8,
 - Optimal with 10 odd nodes or more, since the definition tries every pairing.
 """
 import argparse
@@ -31,8 +31,9 @@ BEFORE = 7
 def too_long(case, most):
     """Why the checker doesn't compute this case, or nothing."""
     head = case.answer[0].split()
-    if len(case.file) > most:
-        return f"files of more than {most} bytes"
+    is_read = head[0] == "ok" or int(head[1]) > 8
+    if is_read and len(case.file) > most:
+        return f"files of more than {most:,} bytes that pass checks 1 to 8"
     if head[0] == "ok" and case.file[14] == 1 and int(head[2]) >= 10:
         return "Optimal with 10 odd nodes or more"
     return None
@@ -94,7 +95,7 @@ def main():
     ap.add_argument("answers")
     ap.add_argument("out")
     ap.add_argument("--each", type=int, default=8)
-    ap.add_argument("--most", type=int, default=1200)
+    ap.add_argument("--most", type=int, default=1700)
     a = ap.parse_args()
     cases = answers.cases(a.answers)
     left = collections.defaultdict(list)
