@@ -1,11 +1,12 @@
 #!/usr/bin/env python3
 """Holds the planner that is linked into the oracle against the published one, on generated drawings, kind by kind.
 
-usage: oracle/against.py ORACLE SEED COUNT [--all-settings | --sizes | --damaged N] [KIND ...]
+usage: oracle/against.py ORACLE SEED COUNT [--all-settings | --sizes | --damaged N | --changed N] [KIND ...]
 
 ORACLE was built with --planner. COUNT drawings of each kind, fewer of the slow kinds (SHARE); with --all-settings each
 with both pairings and all flags, with --sizes each at many sizes of tables and output, with --damaged N damaged copies
-of each. oracle/against.rs says what is compared. Prints the oracle's line for each kind, and the sums.
+of each, with --changed N copies with points, links and settings changed. oracle/against.rs says what is compared.
+Prints the oracle's line for each kind, and the sums.
 """
 import argparse
 import collections
@@ -31,9 +32,10 @@ def main():
     parser.add_argument("--all-settings", action="store_true")
     parser.add_argument("--sizes", action="store_true")
     parser.add_argument("--damaged", type=int)
-    args = parser.parse_args()
+    parser.add_argument("--changed", type=int)
+    args = parser.parse_intermixed_args()
     mode = (["--against-damaged", str(args.damaged)] if args.damaged else ["--against-sizes"] if args.sizes
-            else ["--against-all-settings"] if args.all_settings else ["--against"])
+            else ["--against-changed", str(args.changed)] if args.changed else ["--against-all-settings"] if args.all_settings else ["--against"])
     os.nice(10)
     sums, failed = collections.Counter(), False
     for kind in args.kinds or KINDS:

@@ -13,6 +13,8 @@ pub enum Mode {
     Sizes,
     /// So many damaged copies of each.
     Damaged(usize),
+    /// So many copies of each with points, links and settings changed; most of them are planned.
+    Changed(usize),
 }
 
 #[derive(Default)]
@@ -42,6 +44,11 @@ pub fn run(mode: Mode) -> bool {
             Mode::Damaged(count) => {
                 for _ in 0..count {
                     tally.compare(&mut lender, &random.damaged(&file), lent);
+                }
+            }
+            Mode::Changed(count) => {
+                for _ in 0..count {
+                    tally.compare(&mut lender, &random.changed(&file), lent);
                 }
             }
         }
@@ -233,4 +240,81 @@ impl Random {
         }
         data
     }
+
+    /// A copy whose points lie on one another, a step further or elsewhere, whose links name other places, with records
+    /// doubled or left out, or with other settings. A file whose records are not whole is damaged.
+    fn changed(&mut self, file: &[u8]) -> Vec<u8> {
+        let mut data = file.to_vec();
+        for _ in 0..[1, 1, 2, 3, 8][self.below(5)] {
+            let Some(records) = records(&data) else {
+                return self.damaged(file);
+            };
+            let points: Vec<usize> = records
+                .iter()
+                .flat_map(|r| match r.kind {
+                    2 => (r.start + 6..r.end).step_by(16).collect(),
+                    3 if r.end - r.start == 46 => vec![r.start + 14, r.start + 30],
+                    _ => Vec::new(),
+                })
+                .filter(|at| at + 16 <= data.len())
+                .collect();
+            let links: Vec<usize> = records.iter().filter(|r| r.kind == 3 && r.end - r.start == 46).map(|r| r.start + 6).collect();
+            let later = &records[1.min(records.len())..];
+            match self.below(9) {
+                0 | 1 if !points.is_empty() => {
+                    let from = points[self.below(points.len())];
+                    data.copy_within(from..from + 16, points[self.below(points.len())]);
+                }
+                2 if !points.is_empty() => {
+                    let from = points[self.below(points.len())] + 8 * self.below(2);
+                    data.copy_within(from..from + 8, points[self.below(points.len())] + 8 * self.below(2));
+                }
+                3 | 4 if !points.is_empty() => {
+                    let at = points[self.below(points.len())] + 8 * self.below(2);
+                    let step = [1.0, -1.0, 2.0, -1024.0, 1024.0, 3.0 * 1024.0][self.below(6)] / 1024.0;
+                    let moved = f64::from_le_bytes(data[at..at + 8].try_into().unwrap()) + step;
+                    data[at..at + 8].copy_from_slice(&(moved + 0.0).to_le_bytes());
+                }
+                5 if !links.is_empty() => {
+                    let at = links[self.below(links.len())] + 2 * self.below(4);
+                    data[at] = [data[at].wrapping_add(1), data[at].wrapping_sub(1), 0, self.below(8) as u8][self.below(4)];
+                }
+                6 if !later.is_empty() => {
+                    let record = &later[self.below(later.len())];
+                    let copy = data[record.start..record.end].to_vec();
+                    data.splice(record.end..record.end, copy);
+                }
+                7 if !later.is_empty() => {
+                    let record = &later[self.below(later.len())];
+                    drop(data.drain(record.start..record.end));
+                }
+                _ if data.len() >= 16 => match self.below(3) {
+                    0 => data[15] = self.below(4) as u8,
+                    1 => data[14] = self.below(2) as u8,
+                    _ => data[6 + 4 * self.below(2)] = self.below(20) as u8,
+                },
+                _ => (),
+            }
+        }
+        data
+    }
+}
+
+struct Record {
+    start: usize,
+    end: usize,
+    kind: u8,
+}
+
+/// The records of a file, if they are whole.
+fn records(file: &[u8]) -> Option<Vec<Record>> {
+    let (mut records, mut start) = (Vec::new(), 0);
+    while start < file.len() {
+        let length = crate::reader::u32_at(file.get(start..start + 6)?, 0) as usize;
+        let end = start + 6 + length;
+        file.get(start..end)?;
+        records.push(Record { start, end, kind: file[start + 4] });
+        start = end;
+    }
+    Some(records)
 }

@@ -133,7 +133,8 @@ fn batch(mut bytes: &[u8]) -> Vec<(Lent, &[u8])> {
 const USAGE: &str = "usage: oracle [--f64 N] [--bytes N] [--output N] [--counts | --inside | --time N]   < one drawing
        oracle --batch [--line | --counts | --inside | --time N]                      < drawings in batch form
 with a planner linked in, for drawings in batch form:
-       oracle --against | --against-all-settings | --against-sizes | --against-damaged N
+       oracle --against | --against-all-settings | --against-sizes
+       oracle --against-damaged N | --against-changed N
        oracle --bench | --phases | --stack";
 
 /// Runs a mode that needs a planner linked in; gives whether there is one of this name.
@@ -145,6 +146,7 @@ fn with_planner(word: &str, number: &mut dyn FnMut() -> usize) -> bool {
         "--against-all-settings" => against::run(Mode::AsLent { all_settings: true }),
         "--against-sizes" => against::run(Mode::Sizes),
         "--against-damaged" => against::run(Mode::Damaged(number())),
+        "--against-changed" => against::run(Mode::Changed(number())),
         "--bench" | "--phases" | "--stack" => {
             bench::run(word);
             true
