@@ -34,8 +34,9 @@ def main():
     parser.add_argument("--damaged", type=int)
     parser.add_argument("--changed", type=int)
     args = parser.parse_intermixed_args()
-    mode = (["--against-damaged", str(args.damaged)] if args.damaged else ["--against-sizes"] if args.sizes
-            else ["--against-changed", str(args.changed)] if args.changed else ["--against-all-settings"] if args.all_settings else ["--against"])
+    mode = next(([f"--against-{name}", *number] for name, wanted, *number in [
+        ("damaged", args.damaged, str(args.damaged)), ("changed", args.changed, str(args.changed)), ("sizes", args.sizes),
+        ("all-settings", args.all_settings)] if wanted), ["--against"])
     os.nice(10)
     sums, failed = collections.Counter(), False
     for kind in args.kinds or KINDS:

@@ -2,9 +2,8 @@
 //! was lent. The drawings come in batch form on standard input and are read one by one.
 
 use crate::port::{Lender, MOST_ENTRIES};
-use crate::{stand_in, Lent};
+use crate::{next_drawing, stand_in, Lent};
 use std::collections::BTreeMap;
-use std::io::Read;
 
 pub enum Mode {
     /// Each drawing as it is lent, or with all eight settings.
@@ -165,20 +164,6 @@ fn with_all_settings(file: &[u8]) -> Vec<Vec<u8>> {
         copy
     };
     (0..8).map(with).collect()
-}
-
-/// The next drawing of the batch: three sizes lent and the file's length, each u32 LE, then the file.
-pub fn next_drawing() -> Option<(Lent, Vec<u8>)> {
-    let mut input = std::io::stdin().lock();
-    let mut head = [0; 16];
-    match input.read(&mut head).expect("standard input") {
-        0 => return None,
-        count => input.read_exact(&mut head[count..]).expect("a whole head"),
-    }
-    let number = |i: usize| crate::reader::u32_at(&head, 4 * i) as usize;
-    let mut file = vec![0; number(3)];
-    input.read_exact(&mut file).expect("a whole file");
-    Some((Lent { f64_entries: number(0), byte_entries: number(1), output_bytes: number(2) }, file))
 }
 
 pub fn hex(bytes: &[u8]) -> String {

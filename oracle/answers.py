@@ -37,4 +37,5 @@ def parsed(block, path):
 
 
 def written(case):
-    return "\n".join([f"case {case.name}", "lent {} {} {}".format(*case.lent), f"file {case.file.hex()}".strip(), *case.answer]) + "\n\n"
+    lines = [f"case {case.name}", "lent {} {} {}".format(*case.lent), f"file {case.file.hex()}".strip(), *case.answer]
+    return "\n".join(lines) + "\n\n"

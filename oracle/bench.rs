@@ -1,6 +1,6 @@
 //! Times the published planner and the proved one on the same drawings, in one process.
 
-use crate::{library_hypot, machine_root, port, Lent, Phase};
+use crate::{counts, library_hypot, machine_root, next_drawing, port, Lent, Phase};
 use std::hint::black_box;
 
 #[repr(C)]
@@ -68,14 +68,14 @@ pub fn run(what: &str) {
 /// One line for each drawing: sizes of its graph, then nanoseconds: the port, the published planner with the C
 /// library's `hypot`, and with the machine's root.
 fn whole() {
-    while let Some((lent, file)) = crate::against::next_drawing() {
+    while let Some((lent, file)) = next_drawing() {
         let mut memory = Memory::new(lent);
         let found = times(&mut [
             Box::new(|| drop(black_box(memory.plan(black_box(&file))))),
             Box::new(|| drop(black_box(library_hypot::plan(black_box(&file), lent)))),
             Box::new(|| drop(black_box(machine_root::plan(black_box(&file), lent)))),
         ]);
-        println!("{} | {}", crate::counts(&file, lent), words(&found));
+        println!("{} | {}", counts(&file, lent), words(&found));
     }
 }
 
@@ -85,7 +85,7 @@ const PHASES: [Phase; 7] =
 /// One line for each drawing: nanoseconds from the start to the end of each phase of the published planner, with the
 /// C library's `hypot`, then with the machine's root, then of the port if its phases are linked in.
 fn phases() {
-    while let Some((lent, file)) = crate::against::next_drawing() {
+    while let Some((lent, file)) = next_drawing() {
         let mut memory = Memory::new(lent);
         let mut calls: Vec<Box<dyn FnMut() + '_>> = Vec::new();
         for until in [library_hypot::until, machine_root::until] {
@@ -98,7 +98,7 @@ fn phases() {
         let found = times(&mut calls);
         let (library, rest) = found.split_at(PHASES.len());
         let (machine, port) = rest.split_at(PHASES.len());
-        println!("{} | {} | {} | {}", crate::counts(&file, lent), words(library), words(machine), words(port));
+        println!("{} | {} | {} | {}", counts(&file, lent), words(library), words(machine), words(port));
     }
 }
 
@@ -126,11 +126,15 @@ fn port_phases<'a>(_: &'a [u8], _: &'a mut Memory) -> Vec<Box<dyn FnMut() + 'a>>
 
 #[cfg(phases)]
 unsafe extern "C" {
-    // Each goes from the start to the end of its phase and gives a number that depends on all it made.
+    // Each goes from the start to the end of its phase and gives a number that depends on all it made. `searches` makes
+    // the search for each pair on the graph as it was drawn, and lays no copy.
     fn phase_read(file: *const u8, file_len: usize) -> u64;
     fn phase_graph(file: *const u8, file_len: usize) -> u64;
     fn phase_odd(file: *const u8, file_len: usize) -> u64;
     fn phase_pairs(
+        file: *const u8, file_len: usize, floats: *mut f64, floats_len: usize, bytes: *mut u8, bytes_len: usize,
+    ) -> u64;
+    fn phase_searches(
         file: *const u8, file_len: usize, floats: *mut f64, floats_len: usize, bytes: *mut u8, bytes_len: usize,
     ) -> u64;
     fn phase_repair(
@@ -149,7 +153,7 @@ fn port_phases<'a>(file: &'a [u8], memory: &'a mut Memory) -> Vec<Box<dyn FnMut(
             black_box(unsafe { phase(black_box(file).as_ptr(), file.len()) });
         }));
     }
-    for phase in [phase_pairs, phase_repair] {
+    for phase in [phase_pairs, phase_searches, phase_repair] {
         calls.push(Box::new(move || {
             black_box(unsafe { phase(black_box(file).as_ptr(), file.len(), floats, floats_len, bytes, bytes_len) });
         }));
@@ -168,9 +172,9 @@ const PAINTED: usize = 3 << 20;
 /// One line for each drawing: the bytes of stack that a call of the port reaches down to.
 fn stack() {
     let work = || {
-        while let Some((lent, file)) = crate::against::next_drawing() {
+        while let Some((lent, file)) = next_drawing() {
             let mut memory = Memory::new(lent);
-            println!("{} | {}", crate::counts(&file, lent), deepest(&mut memory, &file));
+            println!("{} | {}", counts(&file, lent), deepest(&mut memory, &file));
         }
     };
     std::thread::Builder::new().stack_size(8 << 20).spawn(work).expect("a thread").join().expect("its end");

@@ -22,7 +22,6 @@ use petgraph::algo::dijkstra;
 use petgraph::graph::NodeIndex;
 use petgraph::visit::EdgeRef;
 use std::io::{Read, Write};
-use std::time::Instant;
 
 /// The published planner with document 01's stand-in for `hypot`.
 mod stand_in {
@@ -117,21 +116,22 @@ fn inside(file: &[u8], lent: Lent) -> String {
     text
 }
 
-/// The drawings of a batch: three sizes lent and the file's length, each u32 LE, then the file.
-fn batch(mut bytes: &[u8]) -> Vec<(Lent, &[u8])> {
-    let mut drawings = Vec::new();
-    while !bytes.is_empty() {
-        let number = |i: usize| reader::u32_at(bytes, 4 * i) as usize;
-        let lent = Lent { f64_entries: number(0), byte_entries: number(1), output_bytes: number(2) };
-        let (file, rest) = bytes[16..].split_at(number(3));
-        drawings.push((lent, file));
-        bytes = rest;
+/// The next drawing of a batch: three sizes lent and the file's length, each u32 LE, then the file.
+fn next_drawing() -> Option<(Lent, Vec<u8>)> {
+    let mut input = std::io::stdin().lock();
+    let mut head = [0; 16];
+    match input.read(&mut head).expect("standard input") {
+        0 => return None,
+        count => input.read_exact(&mut head[count..]).expect("a whole head"),
     }
-    drawings
+    let number = |i: usize| reader::u32_at(&head, 4 * i) as usize;
+    let mut file = vec![0; number(3)];
+    input.read_exact(&mut file).expect("a whole file");
+    Some((Lent { f64_entries: number(0), byte_entries: number(1), output_bytes: number(2) }, file))
 }
 
-const USAGE: &str = "usage: oracle [--f64 N] [--bytes N] [--output N] [--counts | --inside | --time N]   < one drawing
-       oracle --batch [--line | --counts | --inside | --time N]                      < drawings in batch form
+const USAGE: &str = "usage: oracle [--f64 N] [--bytes N] [--output N] [--counts | --inside]   < one drawing
+       oracle --batch [--line | --counts | --inside]                      < drawings in batch form
 with a planner linked in, for drawings in batch form:
        oracle --against | --against-all-settings | --against-sizes
        oracle --against-damaged N | --against-changed N
@@ -163,7 +163,7 @@ fn with_planner(_: &str, _: &mut dyn FnMut() -> usize) -> bool {
 
 fn main() {
     let mut lent = LENT_BY_PLAN;
-    let (mut is_batch, mut one_line, mut show_counts, mut show_inside, mut times) = (false, false, false, false, 0);
+    let (mut is_batch, mut one_line, mut show_counts, mut show_inside) = (false, false, false, false);
     let mut words = std::env::args().skip(1);
     while let Some(word) = words.next() {
         let mut number = || words.next().and_then(|w| w.parse::<usize>().ok()).expect(USAGE);
@@ -171,7 +171,6 @@ fn main() {
             "--f64" => lent.f64_entries = number(),
             "--bytes" => lent.byte_entries = number(),
             "--output" => lent.output_bytes = number(),
-            "--time" => times = number(),
             "--batch" => is_batch = true,
             "--line" => one_line = true,
             "--counts" => show_counts = true,
@@ -180,19 +179,8 @@ fn main() {
             _ => panic!("{USAGE}"),
         }
     }
-    let mut input = Vec::new();
-    std::io::stdin().read_to_end(&mut input).expect("standard input");
-    let drawings = if is_batch { batch(&input) } else { vec![(lent, input.as_slice())] };
-
-    let mut out = std::io::BufWriter::new(std::io::stdout().lock());
-    for (lent, file) in drawings {
-        let text = if times > 0 {
-            let began = Instant::now();
-            for _ in 0..times {
-                std::hint::black_box(plan(std::hint::black_box(file), lent).is_ok());
-            }
-            format!("{} ns a call\n", began.elapsed().as_nanos() / times as u128)
-        } else if show_counts {
+    let shown = |lent: Lent, file: &[u8]| {
+        if show_counts {
             counts(file, lent) + "\n"
         } else if show_inside {
             inside(file, lent) + "\n"
@@ -200,7 +188,17 @@ fn main() {
             answer(file, lent).join(" ") + "\n"
         } else {
             answer(file, lent).join("\n") + if is_batch { "\n--\n" } else { "\n" }
-        };
-        out.write_all(text.as_bytes()).expect("standard output");
+        }
+    };
+    let mut out = std::io::BufWriter::new(std::io::stdout().lock());
+    let mut print = |text: String| out.write_all(text.as_bytes()).expect("standard output");
+    if is_batch {
+        while let Some((lent, file)) = next_drawing() {
+            print(shown(lent, &file));
+        }
+    } else {
+        let mut file = Vec::new();
+        std::io::stdin().read_to_end(&mut file).expect("standard input");
+        print(shown(lent, &file));
     }
 }

@@ -1,7 +1,7 @@
 #!/usr/bin/env python3
 """Times the planner that is linked into the oracle beside the published one, as tables for docs/PERFORMANCE.md.
 
-usage: oracle/timing.py ORACLE TABLE ...       TABLE is goals, slow, growth, small, phases, walk or stack
+usage: oracle/timing.py ORACLE TABLE ...       TABLE is goals, slow, growth, small, phases, walk, found or stack
        oracle/timing.py --write FOLDER         the drawings of all tables as files, for other planners
 
 ORACLE was built with --planner and --petgraph (and --phases, for the port's columns of phases and walk). Both planners
@@ -10,6 +10,7 @@ of a call. The port also writes the record of the line, which the published func
 """
 import pathlib
 import random
+import re
 import subprocess
 import sys
 
@@ -56,7 +57,8 @@ def largest(flags=1):
 def full():
     """256 lines, 1,024 points, 255 links: 1,022 odd nodes whose retraces pass 4,000 edges."""
     rng = random.Random("timing full")
-    lines = [[(x, 900 * i - g.EDGE) for x in (0, 130 + rng.randrange(9), 260 + rng.randrange(9), 400 - rng.randrange(40))] for i in range(256)]
+    corners = lambda: (0, 130 + rng.randrange(9), 260 + rng.randrange(9), 400 - rng.randrange(40))
+    lines = [[(x, 900 * i - g.EDGE) for x in corners()] for i in range(256)]
     on = lambda i: (rng.randint(1, 129), lines[i][0][1])
     return g.write(lines, [(j, 0, on(j), i, 0, on(i)) for i in range(1, 256) for j in [max(0, i - rng.choice([1, 7, 20]))]])
 
@@ -105,11 +107,20 @@ def slow_ones():
         yield name, file, tables(odd) if odd else {}
 
 
+def found():
+    """Generated drawings of at least 100 points, to look for slow ones among them."""
+    for kind in ("walks", "lattice", "honeycomb", "lace", "comb", "edges", "big"):
+        rng = random.Random(f"timing {kind}")
+        drawings = [g.KINDS[kind](rng)[0] for _ in range(40)]
+        yield from ((f"{kind} {k}", file, {}) for k, file in enumerate(drawings) if len(file) >= 1600)
+
+
 # For issues 8 and 9: what each phase takes.
 def phases():
     yield "cross", d.drawing(CROSS), {}
     yield "a line of 1,000 points, closed", line(1000, flags=1), {}
-    wanted = ("510 split points, mixed", "255 split points twice, mixed", "hub, 510 arms", "hub, 1,020 odd nodes", "far pairs, two hubs")
+    wanted = ("510 split points, mixed", "255 split points twice, mixed", "hub, 510 arms", "hub, 1,020 odd nodes",
+              "far pairs, two hubs")
     yield from (row for row in slow_ones() if row[0] in wanted)
     yield from (row[:3] for row in list(goals())[4:])
 
@@ -141,29 +152,32 @@ def ratio(one, other):
 
 
 def sizes(text):
-    return text.strip().replace("nodes ", "").replace(" edges ", " / ").replace(" odd ", " / ").replace(" repaired ", " / ").replace(" points ", " / ")
+    return text.strip() if "refused" in text else " / ".join(re.findall(r"\d+", text))
 
 
 def head(*names):
     print("| " + " | ".join(names) + " |\n|" + "---|" * len(names))
 
 
-def print_whole(oracle, rows):
+def print_whole(oracle, rows, most=None):
+    """The rows with their times; with `most`, those that take longest, or longest by the published planner's time."""
     has_goals = len(rows[0]) > 3
     head("drawing (µs)", "nodes / edges / odd / repaired edges / points", "port", "Rust, C library's hypot", "port by it",
          *(["goal"] if has_goals else []), "Rust, machine's root", "port by it")
-    worst = []
-    for (name, _, _, *goal), (text, (port, library, machine)) in zip(rows, run(oracle, "--bench", rows)):
+    timed = [(*row, text, *times) for row, (text, times) in zip(rows, run(oracle, "--bench", rows))]
+    orders = [lambda row: row[-3], lambda row: row[-3] / row[-2], lambda row: row[-3] / row[-1]]
+    chosen = timed if most is None else [row for row in timed if any(row in sorted(timed, key=o)[-most:] for o in orders)]
+    for name, _, _, *goal, text, port, library, machine in chosen:
         print("|", " | ".join([name, sizes(text), micro(port), micro(library), ratio(port, library), *map(str, goal),
-                               micro(machine), ratio(port, machine)]), "|", flush=True)
-        worst.append((port, port / library, port / machine, name))
-    print(f"\nLongest: {max(worst)[3]}, {micro(max(worst)[0])} µs. Highest ratio: {max(worst, key=lambda w: w[1])[3]},"
-          f" {max(w[1] for w in worst):.2f}; by the machine's root {max(worst, key=lambda w: w[2])[3]}, {max(w[2] for w in worst):.2f}.")
+                               micro(machine), ratio(port, machine)]), "|")
+    longest, by_library, by_machine = (max(timed, key=order) for order in orders)
+    print(f"\n{len(timed)} drawings. Longest: {longest[0]}, {micro(longest[-3])} µs. Highest ratio: {by_library[0]},"
+          f" {ratio(by_library[-3], by_library[-2])}; to the machine's root {by_machine[0]}, {ratio(by_machine[-3], by_machine[-1])}.")
 
 
-# Phases of the published planner, and of the port as phases_c exports them; each time goes from the start.
-RUST_PHASES = ["read", "build_graph", "check 9, odd nodes", "pairs", "searches", "retraces", "walk to line"]
-PORT_PHASES = ["read", "build_graph", "check 9, odd nodes", "pairs", "searches and retraces", "walk to record"]
+# The oracle gives the time from the start to the end of each. The searches are those of a graph without copies, so
+# that the retraces take what the copies add to them too. The port's last phase also writes the record.
+PHASES = ["read", "build_graph", "check 9, odd nodes", "pairs", "searches", "retraces", "walk to line"]
 
 
 def parts(times):
@@ -173,10 +187,10 @@ def parts(times):
 
 def print_phases(oracle, rows):
     found = run(oracle, "--phases", rows)
-    for title, names, at in (("Rust, C library's hypot", RUST_PHASES, 1), ("Rust, machine's root", RUST_PHASES, 2), ("port", PORT_PHASES, 3)):
+    for at, title in enumerate(("Rust, C library's hypot", "Rust, machine's root", "port"), 1):
         if not found[0][at]:
             continue
-        head(f"{title} (µs)", *names)
+        head(f"{title} (µs)", *PHASES)
         for (name, *_), row in zip(rows, found):
             print("|", " | ".join([name, *parts(row[at])]), "|")
         print()
@@ -188,7 +202,7 @@ def print_stack(oracle, rows):
     print(f"Deepest stack of a call, over {len(rows)} drawings: {deepest[0]:,.0f} bytes ({deepest[1]}).")
 
 
-TABLES = dict(goals=goals, slow=slow_ones, growth=growth, small=small, phases=phases, walk=walk)
+TABLES = dict(goals=goals, slow=slow_ones, growth=growth, small=small, phases=phases, walk=walk, found=found)
 
 
 def main():
@@ -206,7 +220,7 @@ def main():
         elif name in ("phases", "walk"):
             print_phases(oracle, list(TABLES[name]()))
         else:
-            print_whole(oracle, list(TABLES[name]()))
+            print_whole(oracle, list(TABLES[name]()), 4 if name == "found" else None)
         print()
 
 

@@ -10,6 +10,7 @@ each kind). Prints how many answers differ and the first of them; fails if a ver
 import argparse
 import pathlib
 import random
+import re
 import shutil
 import subprocess
 import sys
@@ -57,8 +58,6 @@ SHORT_TABLES = """        if n >= 4 && (lent.f64_entries < (1 << n) + n * n || l
             return Err(11);
         }
 """
-TOLERANCE = "- current_cost).abs() < 1e-10"
-CENTER = "Point::new(f64::from(dims.width) / 2.0, f64::from(dims.height) / 2.0)"
 BY_VIRTUAL = "circuit.iter().position(|&(_, by)| by == Some(v))"
 BY_ENDS = """|&(_, by)| by.is_some_and(|e| {
     let ((a, b), (c, d)) = (graph.edge_endpoints(e).unwrap(), graph.edge_endpoints(v).unwrap());
@@ -68,14 +67,19 @@ CUT = "[&nodes[after..], &nodes[1..after]].concat()"
 
 
 def tolerance(by):
-    return "published.rs", (TOLERANCE, "- current_cost).abs() " + by)
+    return "fn shortest_path(", ("< 1e-10", by)
 
 
 def limit(old, new):
     return "reader.rs", (old, new)
 
 
-# Name, file, pairs of old and new text. Each old text stands once in the file.
+def side(name, by):
+    return "fn image_center(", (f"f64::from(dims.{name}) / 2.0", by)
+
+
+# Where each edit is made, one of our files or an item of the published text by its first words, and pairs of old and new
+# text. An old text stands once in the file; in an item every place is changed.
 VERSIONS = {
     "check 1: 65,535 bytes at most": limit("> 65_536", "> 65_535"),
     "check 1: 65,537 bytes at most": limit("> 65_536", "> 65_537"),
@@ -143,44 +147,30 @@ VERSIONS = {
     "tolerance: 0.98e-10": tolerance("< 0.98e-10"),
     "tolerance: 1.02e-10": tolerance("< 1.02e-10"),
     "tolerance: 1e-9": tolerance("< 1e-9"),
-    "centre: width rounded down": ("published.rs", (CENTER, CENTER.replace("dims.width) / 2.0", "dims.width / 2)"))),
-    "centre: height rounded down": ("published.rs", (CENTER, CENTER.replace("dims.height) / 2.0", "dims.height / 2)"))),
-    "centre: width rounded up": ("published.rs", (CENTER, CENTER.replace("dims.width) / 2.0", "dims.width.div_ceil(2))"))),
-    "centre: height rounded up": ("published.rs", (CENTER, CENTER.replace("dims.height) / 2.0", "dims.height.div_ceil(2))"))),
-    "centre: width and height exchanged": (
-        "published.rs", (CENTER, "Point::new(f64::from(dims.height) / 2.0, f64::from(dims.width) / 2.0)")),
-    "splits: sorted along the segment": ("published.rs", (
-        "let da = (a.x - seg_start.x).nearest_hypot(a.y - seg_start.y);",
-        "let da = (a.x - seg_start.x) * (seg_end.x - seg_start.x) + (a.y - seg_start.y) * (seg_end.y - seg_start.y);"), (
-        "let db = (b.x - seg_start.x).nearest_hypot(b.y - seg_start.y);",
-        "let db = (b.x - seg_start.x) * (seg_end.x - seg_start.x) + (b.y - seg_start.y) * (seg_end.y - seg_start.y);")),
-    "splits: not stable": ("published.rs", (
-        "let mut ordered_splits: Vec<geo::Coord<f64>> = split_pts.clone();",
-        "let mut ordered_splits: Vec<geo::Coord<f64>> = split_pts.clone();\n ordered_splits.reverse();")),
-    "splits: each point once": ("published.rs", (
+    "centre: width rounded down": side("width", "f64::from(dims.width / 2)"),
+    "centre: height rounded down": side("height", "f64::from(dims.height / 2)"),
+    "centre: width rounded up": side("width", "f64::from(dims.width.div_ceil(2))"),
+    "centre: height rounded up": side("height", "f64::from(dims.height.div_ceil(2))"),
+    "centre: width and height exchanged": ("fn image_center(", ("dims.width", "dims.side"), ("dims.height", "dims.width"), ("dims.side", "dims.height")),
+    "splits: sorted along the segment": ("fn build_graph(", *[(
+        f"({p}.x - seg_start.x).nearest_hypot({p}.y - seg_start.y)",
+        f"(({p}.x - seg_start.x) * (seg_end.x - seg_start.x) + ({p}.y - seg_start.y) * (seg_end.y - seg_start.y))") for p in "ab"]),
+    "splits: not stable": ("fn build_graph(", ("ordered_splits.sort_by(", "ordered_splits.reverse();\n ordered_splits.sort_by(")),
+    "splits: each point once": ("fn build_graph(", (
         "let mut prev = seg_start;",
-        "let mut seen: Vec<geo::Coord<f64>> = Vec::new();\n ordered_splits.retain(|p| !seen.contains(p) && { seen.push(*p); true });\n"
-        "let mut prev = seg_start;")),
-    "greedy: the last of the nearest": ("published.rs", (
-        "if d < best_dist {\n                    best_dist = d;\n                    best_i = i;",
-        "if d <= best_dist {\n                    best_dist = d;\n                    best_i = i;")),
-    "greedy: remove for swap_remove": ("published.rs", (
-        "remaining.swap_remove(best_j);\n            remaining.swap_remove(best_i);",
-        "remaining.remove(best_j);\n            remaining.remove(best_i);")),
-    "greedy: the lower place removed first": ("published.rs", (
-        "remaining.swap_remove(best_j);\n            remaining.swap_remove(best_i);",
-        "let high = remaining[best_j];\n remaining.swap_remove(best_i);\n"
-        "let at = remaining.iter().position(|&n| n == high).unwrap();\n remaining.swap_remove(at);")),
-    "optimal: the last of the best": ("published.rs", ("if cost < dp[mask]", "if cost <= dp[mask]")),
-    "optimal: the last of the two left out": ("published.rs", ("if dp[to_match] < best_cost", "if dp[to_match] <= best_cost")),
-    "optimal: distances transposed": ("published.rs", ("dp[prev] + dist_matrix[i][j]", "dp[prev] + dist_matrix[j][i]")),
-    "optimal: distances by eye": ("published.rs", (
-        "dist[i][j] = costs.get(&dst).copied().unwrap_or(f64::INFINITY);",
-        "dist[i][j] = costs.get(&dst).copied().unwrap_or(f64::INFINITY).round();")),
-    "retraces: a sum for each": ("published.rs", (
-        "let mut total_retrace = apply_matching(graph, &pairs)?;",
-        "let mut total_retrace = 0.0;\n for &(a, b) in &pairs {\n total_retrace += apply_matching(graph, &[(a, b)])?;\n }")),
-    "retraces: one running sum, the closing one included": ("published.rs", (
+        "let mut seen = Vec::new();\n ordered_splits.retain(|p| !seen.contains(p) && { seen.push(*p); true });\n let mut prev = seg_start;")),
+    "greedy: the last of the nearest": ("fn greedy_euclidean_matching(", ("d < best_dist", "d <= best_dist")),
+    "greedy: remove for swap_remove": ("fn greedy_euclidean_matching(", (".swap_remove(", ".remove(")),
+    # Where the higher place is the last of the list, the lower one can't go first by its number.
+    "greedy: the lower place removed first": (
+        "fn greedy_euclidean_matching(", ("if best_i > best_j", "if best_j + 1 < remaining.len()")),
+    "optimal: the last of the best": ("fn dp_bitmask_matching(", ("cost < dp[mask]", "cost <= dp[mask]")),
+    "optimal: the last of the two left out": ("fn dp_bitmask_matching(", ("dp[to_match] < best_cost", "dp[to_match] <= best_cost")),
+    "optimal: distances transposed": ("fn dp_bitmask_matching(", ("dist_matrix[i][j]", "dist_matrix[j][i]")),
+    "optimal: distances in whole pixels": ("fn dp_bitmask_matching(", ("dist_matrix[i][j]", "dist_matrix[i][j].round()")),
+    "retraces: a sum for each": ("fn fix_parity(", (
+        "apply_matching(graph, &pairs)?", "{\n let mut all = 0.0;\n for &pair in &pairs {\n all += apply_matching(graph, &[pair])?;\n }\n all\n }")),
+    "retraces: one running sum, the closing one included": ("fn fix_parity(", (
         "total_retrace += apply_matching(graph, &[(remaining[0], remaining[1])])?;",
         "for step in shortest_path(graph, remaining[0], remaining[1])?.windows(2) {\n"
         "total_retrace += graph.edges(step[0]).find(|e| e.target() == step[1]).map_or(0.0, |e| *e.weight());\n }\n"
@@ -189,15 +179,11 @@ VERSIONS = {
         "let first = self.as_first[n.0].iter().rev();", "let first = self.as_first[n.0].iter();"), (
         "let second = self.as_second[n.0].iter().rev();", "let second = self.as_second[n.0].iter();")),
     "edges: second ends first": ("petgraph.rs", ("first.chain(second)", "second.chain(first)")),
-    "walk: the virtual edge from the higher to the lower": ("published.rs", (
-        "work_graph.add_edge(pair[0], pair[1], 0.0)", "work_graph.add_edge(pair[1], pair[0], 0.0)")),
-    "start: the last of the best": ("published.rs", (
-        "StartPointStrategy::Outside => dist > best_dist,\n                    StartPointStrategy::Inside => dist < best_dist,",
-        "StartPointStrategy::Outside => dist >= best_dist,\n                    StartPointStrategy::Inside => dist <= best_dist,")),
-    "orient: turned round on a tie": ("published.rs", (
-        "StartPointStrategy::Outside => last_dist > first_dist,\n        StartPointStrategy::Inside => last_dist < first_dist,",
-        "StartPointStrategy::Outside => last_dist >= first_dist,\n        StartPointStrategy::Inside => last_dist <= first_dist,")),
-    "orient: never turned round": ("published.rs", ("if should_reverse {", "if false && should_reverse {")),
+    "walk: the virtual edge from the higher to the lower": ("fn hierholzer(", ("(pair[0], pair[1], 0.0)", "(pair[1], pair[0], 0.0)")),
+    "start: the last of the best": ("fn hierholzer(", ("dist > best_dist", "dist >= best_dist"), ("dist < best_dist", "dist <= best_dist")),
+    "orient: turned round on a tie": (
+        "fn orient_path(", ("last_dist > first_dist", "last_dist >= first_dist"), ("last_dist < first_dist", "last_dist <= first_dist")),
+    "orient: never turned round": ("fn orient_path(", ("if should_reverse", "if false && should_reverse")),
     "cut: the first step between the virtual edge's ends": ("departure.rs", (BY_VIRTUAL, f"circuit.iter().position({BY_ENDS})")),
     "cut: the last step between the virtual edge's ends": ("departure.rs", (BY_VIRTUAL, f"circuit.iter().rposition({BY_ENDS})")),
     "cut: the circuit's start twice": ("departure.rs", (CUT, "[&nodes[after..], &nodes[..after]].concat()")),
@@ -207,12 +193,20 @@ VERSIONS = {
 }
 
 
-def edited(name, text, pairs):
+def edited(folder, where, pairs):
+    """The file that an edit changes, and its text with the edit made."""
+    file = where if where.endswith(".rs") else "published.rs"
+    text = (folder / file).read_text()
+    start, end = 0, len(text)
+    if file == "published.rs":
+        start = re.search("^(pub\\S* )?" + re.escape(where), text, re.MULTILINE).start()
+        end = text.index("\n}\n", start)
+    part = text[start:end]
     for old, new in pairs:
-        if text.count(old) != 1:
-            sys.exit(f"{name}: its text stands {text.count(old)} times, not once:\n{old}")
-        text = text.replace(old, new)
-    return text
+        if part.count(old) == 0 or file != "published.rs" and part.count(old) > 1:
+            sys.exit(f"{where}: this text stands there {part.count(old)} times:\n{old}")
+        part = part.replace(old, new)
+    return file, text[:start] + part + text[end:]
 
 
 def planned(program, batch):
@@ -244,15 +238,16 @@ def main():
 
     missed = tried = 0
     version = args.out / "version"
-    for name, (file, *pairs) in VERSIONS.items():
+    for name, (where, *pairs) in VERSIONS.items():
         if args.only not in name:
             continue
         tried += 1
         shutil.rmtree(version, ignore_errors=True)
         version.mkdir()
-        for text in args.out.glob("*.rs"):
-            shutil.copy(text, version)
-        (version / file).write_text(edited(name, (args.out / file).read_text(), pairs))
+        for source in args.out.glob("*.rs"):
+            shutil.copy(source, version)
+        file, text = edited(args.out, where, pairs)
+        (version / file).write_text(text)
         subprocess.run(["rustc", "-O", "--edition", "2024", "-A", "warnings", "-o", version / "oracle", version / "main.rs"],
                        check=True)
         got = planned(version / "oracle", batch)
