@@ -43,18 +43,6 @@ mod library_hypot {
 
 use stand_in::plan;
 
-/// The parts of the published planner, in the order they run.
-#[derive(Clone, Copy, Debug, PartialEq, PartialOrd)]
-pub enum Phase {
-    Read,
-    Graph,
-    Odd,
-    Pairs,
-    Searches,
-    Repair,
-    Line,
-}
-
 /// What the caller lends: entries of the f64 table, entries of the byte table, bytes of the output.
 #[derive(Clone, Copy, Debug)]
 pub struct Lent {

@@ -6,7 +6,7 @@
 use crate::petgraph::algo::dijkstra;
 use crate::petgraph::graph::{NodeIndex, UnGraph};
 use crate::petgraph::visit::EdgeRef;
-use crate::{departure, geo, petgraph, reader, Lent, Phase};
+use crate::{departure, geo, petgraph, reader, Lent};
 
 include!("published.rs");
 
@@ -33,18 +33,31 @@ pub struct Plan {
 
 /// The plan for a file, or the number of its refusal.
 pub fn plan(file: &[u8], lent: Lent) -> Result<Plan, u32> {
-    Ok(plan_until(file, lent, Phase::Line)?.expect("the last phase"))
+    let drawing = reader::read(file)?;
+    let (mut graph, node_coords) = graph_of(&drawing);
+    let edges_drawn = graph.edge_count();
+    if !all_reached_from_first(&graph) {
+        return Err(9);
+    }
+    if drawing.optimal {
+        let n = odd_degree_vertices(&graph).len();
+        if n > DP_THRESHOLD {
+            return Err(10);
+        }
+        if n >= 4 && (lent.f64_entries < (1 << n) + n * n || lent.byte_entries < 1 << n) {
+            return Err(11);
+        }
+    }
+    let (retrace, odd_before, odd_after) = fix_parity(&mut graph, &node_coords, pairing_of(&drawing), drawing.close)
+        .map_err(|error| if error == TOO_MANY_EDGES { 13u32 } else { 12 })?;
+    let points = line_of(&drawing, &graph, &node_coords);
+    if lent.output_bytes < 6 + 16 * points.len() {
+        return Err(14);
+    }
+    Ok(Plan { retrace, odd_before, odd_after, points, edges_drawn, graph })
 }
 
-/// The same, left after the phase that is named, so that the phases can be timed.
-pub fn plan_until(file: &[u8], lent: Lent, last: Phase) -> Result<Option<Plan>, u32> {
-    let drawing = reader::read(file)?;
-    if last == Phase::Read {
-        return Ok(None);
-    }
-    let dims = Dimensions { width: drawing.width, height: drawing.height };
-    let pairing = if drawing.optimal { ParityStrategy::Optimal } else { ParityStrategy::Greedy };
-    let start = if drawing.inside { StartPointStrategy::Inside } else { StartPointStrategy::Outside };
+fn graph_of(drawing: &reader::Drawing) -> (UnGraph<(), f64>, Vec<geo::Coord<f64>>) {
     // Empty lines stay in the list, so that the links' line numbers fit; `build_graph` skips them.
     let lines: Vec<Polyline> = drawing
         .lines
@@ -64,70 +77,61 @@ pub fn plan_until(file: &[u8], lent: Lent, last: Phase) -> Result<Option<Plan>, 
             seg_b: l.segment_b,
         })
         .collect();
-
-    let (mut graph, node_coords) = build_graph(&line_refs, &links);
-    let edges_drawn = graph.edge_count();
-    if last == Phase::Graph {
-        return Ok(None);
-    }
-    if !all_reached_from_first(&graph) {
-        return Err(9);
-    }
-    if drawing.optimal {
-        let n = odd_degree_vertices(&graph).len();
-        if n > DP_THRESHOLD {
-            return Err(10);
-        }
-        if n >= 4 && (lent.f64_entries < (1 << n) + n * n || lent.byte_entries < 1 << n) {
-            return Err(11);
-        }
-    }
-    if last <= Phase::Searches {
-        pairs_and_searches(&graph, &node_coords, pairing, drawing.close, last);
-        return Ok(None);
-    }
-    let (retrace, odd_before, odd_after) = fix_parity(&mut graph, &node_coords, pairing, drawing.close)
-        .map_err(|error| if error == TOO_MANY_EDGES { 13u32 } else { 12 })?;
-    if last == Phase::Repair {
-        return Ok(None);
-    }
-    let path = hierholzer(&graph, &node_coords, start, dims);
-    let line = orient_path(emit_polyline(&path, &node_coords), start, dims);
-    let points: Vec<(f64, f64)> = line.into_points().into_iter().map(|p| (p.x, p.y)).collect();
-    if lent.output_bytes < 6 + 16 * points.len() {
-        return Err(14);
-    }
-    Ok(Some(Plan { retrace, odd_before, odd_after, points, edges_drawn, graph }))
+    build_graph(&line_refs, &links)
 }
 
-/// For timing.
-pub fn until(file: &[u8], lent: Lent, last: Phase) {
-    let _ = std::hint::black_box(plan_until(file, lent, last));
+fn pairing_of(drawing: &reader::Drawing) -> ParityStrategy {
+    if drawing.optimal { ParityStrategy::Optimal } else { ParityStrategy::Greedy }
 }
 
-/// For timing, the parts of `fix_parity` up to a phase: the odd nodes, the pairs, and for each pair the search
-/// alone, which here runs on the graph as it was drawn, without the copies of the retraces before it.
-fn pairs_and_searches(graph: &UnGraph<(), f64>, at: &[geo::Coord<f64>], pairing: ParityStrategy, close: bool, last: Phase) {
-    let odd = odd_degree_vertices(graph);
-    if last == Phase::Odd {
-        std::hint::black_box(&odd);
-        return;
-    }
-    let pairs = match odd.len() {
-        0 => Vec::new(),
-        2 => if close { vec![(odd[0], odd[1])] } else { Vec::new() },
-        _ => match pairing {
-            ParityStrategy::Greedy => greedy_euclidean_matching(&odd, at),
-            ParityStrategy::Optimal => optimal_matching(graph, &odd, at).expect("pairs"),
-        },
+fn line_of(drawing: &reader::Drawing, graph: &UnGraph<(), f64>, node_coords: &[geo::Coord<f64>]) -> Vec<(f64, f64)> {
+    let dims = Dimensions { width: drawing.width, height: drawing.height };
+    let start = if drawing.inside { StartPointStrategy::Inside } else { StartPointStrategy::Outside };
+    let path = hierholzer(graph, node_coords, start, dims);
+    let line = orient_path(emit_polyline(&path, node_coords), start, dims);
+    line.into_points().into_iter().map(|p| (p.x, p.y)).collect()
+}
+
+/// When each phase ends, by this clock: reading, `build_graph`, check 9 and the odd nodes, the pairs, the searches, the
+/// retraces, and the line. `fix_parity` is taken apart for it: for each pair the search is made alone first, on the
+/// graph without copies, so that the retraces hold a search each too. A refused drawing has fewer phases.
+pub fn phase_ends(file: &[u8], now: fn() -> f64) -> Vec<f64> {
+    let mut ends = vec![now()];
+    let Ok(drawing) = reader::read(file) else {
+        return ends;
     };
-    std::hint::black_box(&pairs);
-    if last == Phase::Pairs {
-        return;
+    ends.push(now());
+    let (mut graph, node_coords) = graph_of(&drawing);
+    ends.push(now());
+    let is_whole = all_reached_from_first(&graph);
+    let odd = odd_degree_vertices(&graph);
+    ends.push(now());
+    if !is_whole || drawing.optimal && odd.len() > DP_THRESHOLD {
+        return ends;
     }
-    for (from, to) in pairs {
-        std::hint::black_box(dijkstra(graph, from, Some(to), |e| *e.weight()));
+    let mut pairs = match odd.len() {
+        0 | 2 => Vec::new(),
+        _ if drawing.optimal => optimal_matching(&graph, &odd, &node_coords).expect("pairs"),
+        _ => greedy_euclidean_matching(&odd, &node_coords),
+    };
+    if drawing.close {
+        // The two nodes that no pair has.
+        let paired: Vec<NodeIndex> = pairs.iter().flat_map(|&(a, b)| [a, b]).collect();
+        let left: Vec<NodeIndex> = odd.iter().copied().filter(|n| !paired.contains(n)).collect();
+        pairs.extend(left.chunks(2).map(|pair| (pair[0], pair[1])));
     }
+    ends.push(now());
+    for &(from, to) in &pairs {
+        std::hint::black_box(dijkstra(&graph, from, Some(to), |e| *e.weight()));
+    }
+    ends.push(now());
+    let repaired = apply_matching(&mut graph, &pairs);
+    ends.push(now());
+    if repaired.is_ok() {
+        std::hint::black_box(line_of(&drawing, &graph, &node_coords));
+        ends.push(now());
+    }
+    ends
 }
 
 /// Check 9, which the published code has no part for.

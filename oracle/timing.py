@@ -175,14 +175,9 @@ def print_whole(oracle, rows, most=None):
           f" {ratio(by_library[-3], by_library[-2])}; to the machine's root {by_machine[0]}, {ratio(by_machine[-3], by_machine[-1])}.")
 
 
-# The oracle gives the time from the start to the end of each. The searches are those of a graph without copies, so
-# that the retraces take what the copies add to them too. The port's last phase also writes the record.
+# The searches are those of a graph without copies, so that the retraces take what the copies add to them too. The
+# port's times are differences of calls that go from the start, and its last phase also writes the record.
 PHASES = ["read", "build_graph", "check 9, odd nodes", "pairs", "searches", "retraces", "walk to line"]
-
-
-def parts(times):
-    """What each phase takes by itself, where that is more than the measurement of what comes before it strays."""
-    return [micro(b - a) if b - a > b / 50 else "-" for a, b in zip([0, *times], times)]
 
 
 def print_phases(oracle, rows):
@@ -192,7 +187,9 @@ def print_phases(oracle, rows):
             continue
         head(f"{title} (µs)", *PHASES)
         for (name, *_), row in zip(rows, found):
-            print("|", " | ".join([name, *parts(row[at])]), "|")
+            # A refused drawing has fewer phases. A difference that is less than what comes before it strays is not shown.
+            cells = [micro(t) if title != "port" or t > sum(row[at][:k]) / 50 else "-" for k, t in enumerate(row[at])]
+            print("|", " | ".join([name, *cells, *[""] * (len(PHASES) - len(cells))]), "|")
         print()
 
 
