@@ -111,7 +111,7 @@ def found():
     """Generated drawings of at least 100 points, to look for slow ones among them."""
     for kind in ("walks", "lattice", "honeycomb", "lace", "comb", "edges", "big"):
         rng = random.Random(f"timing {kind}")
-        drawings = [g.KINDS[kind](rng)[0] for _ in range(40)]
+        drawings = [g.KINDS[kind](rng)[0] for _ in range(12)]
         yield from ((f"{kind} {k}", file, {}) for k, file in enumerate(drawings) if len(file) >= 1600)
 
 
