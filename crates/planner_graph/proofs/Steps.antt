@@ -63,6 +63,7 @@ module _ (g : Graph) (s : Settings) (lent : plan.Lent) where
     pub edges-are : repair .edges ≡ es
 
   pub mended : (x : Float) (before after : ℕ) (es : List Edge) → values x before after es ≡ parity → Mended x before after es
+  unfolding verdict
   mended x before after es e = go (tooManyOdd mostOdd s (odd (g .edges))) (tableShort mostOdd s (odd (g .edges)) (lent .floats) (lent .bytes)) refl refl
     where
       one : Value → ℕ
@@ -105,7 +106,7 @@ module _ (g : Graph) (s : Settings) (lent : plan.Lent) where
 
   module _ (reached : allReached (length (g .nodes)) (g .edges) ≡ true) where
     pub refused-planned : (k : ℕ) → refusal k ≡ parity → plan.planGraph g s lent ≡ plan.refuse k lent
-    unfolding plan.oddOf
+    unfolding verdict plan.oddOf
     refused-planned k e = go (tooManyOdd mostOdd s (odd (g .edges))) (tableShort mostOdd s (odd (g .edges)) (lent .floats) (lent .bytes)) refl refl
       where
         number : Value → ℕ

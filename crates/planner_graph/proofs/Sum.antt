@@ -18,9 +18,9 @@ use Rattle.repair_spec.specs.Retrace.{Path, found, error, shortestPath, Laid, l
 use Rattle.repair_spec.proofs.Along.{shortest-along}
 use Rattle.repair_spec.proofs.Copies.{lay-nonneg}
 use Rattle.repair_spec.specs.Pairing.{Pair, pair}
-use Rattle.repair_spec.specs.Repair.{Repair, Repairing, stopped, repaired, withSum, addSum, applyMatching, pairsOf, close, closeIf, drawn, fixParity}
+use Rattle.repair_spec.specs.Repair.{Repair, Repairing, stopped, repaired, withSum, addSum, retraced, applyMatching, pairsOf, close, closeIf, drawn, fixParity}
 use Rattle.graph_spec.specs.Weights.{Searchable}
-use Rattle.repair_early_exit.proofs.Laid.{retraced, retrace-searchable}
+use Rattle.repair_early_exit.proofs.Laid.{retrace-searchable}
 
 path-sum : (n s t : ℕ) (l : Laid) (path : List ℕ) → shortestPath n (l .edges) s t ≡ found path → Searchable n (l .edges) → Nonneg binary64 (l .sum) → Nonneg binary64 (layPath path l .sum)
 unfolding layPath

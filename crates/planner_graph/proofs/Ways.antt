@@ -69,11 +69,11 @@ module _ (t : Settings) (n m : ℕ) (xs ys : List ℕ) (a : Adjacency) (P : Plan
       line = lineOf (settingsOf t) (nodesIn n xs ys) (edgesIn (r .edges) a')
 
       module _ (em : Emitted) (output' : List ℕ) (E : em ≡ emittedOf output line) (O : output' ≡ outputWith output line) where
-        kind : Emitted → ℕ
+        abbrev kind : Emitted → ℕ
         kind emitted.Short = 0
         kind (emitted.Points k) = 1
 
-        count : Emitted → ℕ
+        abbrev count : Emitted → ℕ
         count emitted.Short = 0
         count (emitted.Points k) = k
 

@@ -9,8 +9,8 @@ use Rattle.planner.proofs.plan_file.Statement.{statement}
 use Rattle.planner.proofs.plan_file.Tie as tie
 use Rattle.planner.proofs.plan_file.Reads as reads
 use Rattle.planner.proofs.plan_file.Lts as lts
-use Rattle.repair_optimal.proofs.clear_bytes.Reads as clear-bytes-reads
-use Rattle.repair_optimal.proofs.clear_floats.Reads as clear-floats-reads
+use Rattle.tables.proofs.clear_bytes.Reads as clear-bytes-reads
+use Rattle.tables.proofs.clear_floats.Reads as clear-floats-reads
 use Rattle.planner.proofs.plan_bytes.Reads as plan-bytes-reads
 
 plan-bytes-requires : tie.Need-plan-bytes-requires
