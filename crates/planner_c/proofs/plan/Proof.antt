@@ -38,8 +38,8 @@ returns c =
     let met = p .ensures .1 .0 in
     let number = p .ensures .1 .1 in
     let e = c .before .answer .given .1 in (
-      refused-exported _ _ _ _ _ _ _ _ is met number _ (sym e),
-      (output-is _ _ _ _ _ _ _ _ is met number, ((floats-are _ _ _ _ _ _ _ _ is met number, bytes-are _ _ _ _ _ _ _ _ is met number), refused-some _ _ _ _ _ _ _ _ is met number _ (sym e))),
+      refused-exported _ _ _ _ _ _ _ (p .result) is met number _ (sym e),
+      (output-is _ _ _ _ _ _ _ (p .result) is met number, ((floats-are _ _ _ _ _ _ _ (p .result) is met number, bytes-are _ _ _ _ _ _ _ (p .result) is met number), refused-some _ _ _ _ _ _ _ (p .result) is met number _ (sym e))),
     )
 
 same-length-4 : tie.Need-same-length-4
@@ -58,8 +58,8 @@ returns-2 c =
     let met = p .ensures .1 .0 in
     let number = p .ensures .1 .1 in
     let e = c .before .answer2 .given .1 in (
-      planned-exported _ _ _ _ _ _ _ _ is met number _ _ _ _ (sym e),
-      (output-is _ _ _ _ _ _ _ _ is met number, ((floats-are _ _ _ _ _ _ _ _ is met number, bytes-are _ _ _ _ _ _ _ _ is met number), λ z. planned-demand _ _ _ _ _ _ _ _ is met number _ _ _ _ (sym e))),
+      planned-exported _ _ _ _ _ _ _ (p .result) is met number _ _ _ _ (sym e),
+      (output-is _ _ _ _ _ _ _ (p .result) is met number, ((floats-are _ _ _ _ _ _ _ (p .result) is met number, bytes-are _ _ _ _ _ _ _ (p .result) is met number), λ z. planned-demand _ _ _ _ _ _ _ (p .result) is met number _ _ _ _ (sym e))),
     )
 
 pub plan-spec : {M : Type 1} → statement M
