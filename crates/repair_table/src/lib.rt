@@ -107,17 +107,24 @@ pub fn fill_mask(table: &mut [f64], partners: &mut [u8], n: usize, m: usize)
     partners[m] = b.at as u8;
 }
 
-// The next mask to look at. Where m is not asked for, none with more places below its lowest is.
+// The next mask to look at. A mask between m and m + 2^e, where e is no higher than the lowest place of m, has at
+// most e places more than m, and the lowest of those is below e. Where m has too few places for such a mask to be
+// asked for, it is passed over. This e is the largest one: of 20 places, 46,354 masks are looked at, of which 9 have
+// more than half of what they are without above their lowest.
 pub fn next_mask(m: usize, n: usize) -> usize
     requires { ⌜ (0 < m) × (m < 2 ^ n) × (n ≤ mostOdd) ⌝ }
     ensures { λ r. ⌜ Next n m r ⌝ }
 {
     let places = usize::count_ones(m) as usize;
+    let half = (n - places) / 2;
     let i = lowest(m, n);
-    if places + 2 * i + 2 < n {
+    if i + 1 < half {
         return m + power(i);
     }
-    m + 1
+    if half == 0 {
+        return m + 1;
+    }
+    m + power(half - 1)
 }
 
 // The entries for all masks of n places that are asked for, from the distances between the places.
