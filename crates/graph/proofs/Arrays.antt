@@ -4,10 +4,9 @@ use mathlib.Core.List.{List, _++_, map}
 use Prim.Native.Nat.{ℕ, _-_, _≤_}
 use native.Mathlib.Omega.{arith}
 use lib.ListN.{length, replicate}
-use Rattle.limits.specs.Limits.{mostLinks}
+use Rattle.limits.specs.Limits.{mostLines, mostLinks}
 use Rattle.drawing_spec.specs.Drawing as drawn
 use Rattle.graph_spec.specs.Graph.{buildGraph}
-use Rattle.graph_segment_ends.specs.Gather.{keyed}
 use Rattle.graph_nodes.specs.Table.{Table, noNodes}
 use Rattle.graph_adjacency.specs.Lists.{Adjacency, noEdges}
 use Rattle.file_records.specs.declared.MstEdge.{MstEdge}
@@ -17,16 +16,17 @@ use Rattle.file.specs.Held.{noEdge}
 use Rattle.file.specs.Reading.{drawingHeld}
 use Rattle.file.specs.Back.{drawingFrom}
 use Rattle.graph_moves.specs.Moves.{Move}
+use Rattle.graph_splits.specs.Points.{Points, points, LowPoints}
 use Rattle.graph_strokes.specs.Step.{Traced, traced}
 use Rattle.graph_chain.specs.Along.{tracedAlong}
-use Rattle.graph_line.specs.Lines.{Filing, filing, Points, points, origin, Ready, AllDistances}
+use Rattle.graph_line.specs.Lines.{Filing, filing, origin, Ready}
 use Rattle.graph_lines.specs.All.{StartsInside}
-use Rattle.graph_filing.specs.Stored.{store, storeLinks, LowPoints, LinksFit}
-use Rattle.graph_filed.proofs.Ends.{noStore, filed-all}
-use Rattle.graph_filed.proofs.Starts.{startsOf, pointsOf, starts-inside, links-fit, low-points}
+use Rattle.graph_filing.specs.Stored.{store, storeLinks, LinksFit}
+use Rattle.graph_filed.proofs.Ends.{noStore, filed-all, low-places}
+use Rattle.graph_filed.proofs.Starts.{startsOf, pointsOf, starts-inside, links-fit}
 use Rattle.graph.specs.Whole.{movesIn}
 use Rattle.graph.specs.Built.{Built}
-use Rattle.graph.proofs.Whole.{filingIn, ends-few, all-ok, distances-in, all-ready, all-built}
+use Rattle.graph.proofs.Whole.{filingIn, ends-few, all-ok, all-ready, all-built}
 use Rattle.graph.specs.Sound.{Sound}
 
 module _ (d : Drawing) (S : Sound d) where
@@ -52,10 +52,10 @@ module _ (d : Drawing) (S : Sound d) where
 
   -- ---- for filing
 
-  pub few-lines : d .lines ≤ 256
+  pub few-lines : d .lines ≤ mostLines
   few-lines = omega (arith, lines-count, S .counts .lines)
 
-  pub few-links : d .«link_count» ≤ 255
+  pub few-links : d .«link_count» ≤ mostLinks
   few-links = omega (arith, links-count, S .counts .links)
 
   pub links-held : LinksFit (d .starts) (d .links) (d .«link_count»)
@@ -65,9 +65,6 @@ module _ (d : Drawing) (S : Sound d) where
       (subst (λ (ms : List MstEdge). LinksFit (startsOf (e .lines)) ms (d .«link_count»)) (sym links-are)
       (subst (LinksFit (startsOf (e .lines)) (map edgeFrom (e .links) ++ replicate (mostLinks - length (map edgeFrom (e .links))) noEdge)) (sym links-count)
       (links-fit (e .lines) (S .counts .lines) (S .counts .points) (e .links) (replicate (mostLinks - length (map edgeFrom (e .links))) noEdge) (all-ok e (S .counts) (S .links-fit)) (S .links-on))))
-
-  pub low-held : LowPoints (points (d .xs) (d .ys))
-  low-held = subst LowPoints (sym points-are) (low-points (drawingFrom d .lines) (S .lines-on))
 
   pub starts-held : StartsInside (d .starts)
   starts-held = subst StartsInside (sym starts-are) (starts-inside (drawingFrom d .lines) (S .counts .points))
@@ -93,19 +90,17 @@ viewMoves v = movesIn (v .filing-is) (v .points-is) (v .starts-is) (v .lines-is)
 abbrev viewState : View → Traced
 viewState v = traced (v .table-is) (v .edges-is) 0 0 0
 
-module _ (d : Drawing) (S : Sound d) (hs ns ds xs ys : List ℕ) (e : store hs ns ds xs ys ≡ storeLinks (d .starts) (points (d .xs) (d .ys)) (d .links) (d .«link_count») 0 noStore)
+module _ (d : Drawing) (S : Sound d) (hs ns xs ys : List ℕ) (e : store hs ns xs ys ≡ storeLinks (d .starts) (d .links) (d .«link_count») 0 noStore)
     (t : Table) (a : Adjacency) (et : t ≡ noNodes) (ea : a ≡ noEdges) where
-  filing-same : filing (keyed ds xs ys) ns hs ≡ filingIn (drawingFrom d)
+  filing-same : filing (points xs ys) ns hs ≡ filingIn (drawingFrom d)
   filing-same =
       let b = drawingFrom d in
-      let e' : store hs ns ds xs ys ≡ storeLinks (startsOf (b .lines)) (pointsOf (b .lines)) (d .links) (length (b .links)) 0 noStore =
-      e ∙ ap (λ (s : List ℕ). storeLinks s (points (d .xs) (d .ys)) (d .links) (d .«link_count») 0 noStore) (starts-are d S)
-      ∙ ap (λ (p : Points). storeLinks (startsOf (b .lines)) p (d .links) (d .«link_count») 0 noStore) (points-are d S)
-      ∙ ap (λ (n : ℕ). storeLinks (startsOf (b .lines)) (pointsOf (b .lines)) (d .links) n 0 noStore) (links-count d S) in
-      filed-all (startsOf (b .lines)) (pointsOf (b .lines)) (b .links) (d .links) (replicate (mostLinks - length (map edgeFrom (b .links))) noEdge) hs ns ds xs ys (links-are d S) (S .links-on) (ends-few b (S .counts) (S .links-fit)) e'
+      let e' : store hs ns xs ys ≡ storeLinks (startsOf (b .lines)) (d .links) (length (b .links)) 0 noStore =
+      e ∙ ap (λ (s : List ℕ). storeLinks s (d .links) (d .«link_count») 0 noStore) (starts-are d S) ∙ ap (λ (n : ℕ). storeLinks (startsOf (b .lines)) (d .links) n 0 noStore) (links-count d S) in
+      filed-all (startsOf (b .lines)) (b .links) (d .links) (replicate (mostLinks - length (map edgeFrom (b .links))) noEdge) hs ns xs ys (links-are d S) (S .links-on) (ends-few b (S .counts) (S .links-fit)) e'
 
   one : View
-  one = view (filing (keyed ds xs ys) ns hs) (points (d .xs) (d .ys)) (d .starts) (d .lines) (d .«link_count») t a
+  one = view (filing (points xs ys) ns hs) (points (d .xs) (d .ys)) (d .starts) (d .lines) (d .«link_count») t a
 
   two : View
   two = let b = drawingFrom d in view (filingIn b) (pointsOf (b .lines)) (startsOf (b .lines)) (length (b .lines)) (length (b .links)) noNodes noEdges
@@ -114,7 +109,7 @@ module _ (d : Drawing) (S : Sound d) (hs ns ds xs ys : List ℕ) (e : store hs n
   unfolding one two
   same-view =
       let b = drawingFrom d in
-      let f = filing (keyed ds xs ys) ns hs in
+      let f = filing (points xs ys) ns hs in
       let p = points (d .xs) (d .ys) in
       ap (λ (x : Filing). view x p (d .starts) (d .lines) (d .«link_count») t a) filing-same
       ∙ ap (λ (x : Points). view (filingIn b) x (d .starts) (d .lines) (d .«link_count») t a) (points-are d S)
@@ -124,15 +119,14 @@ module _ (d : Drawing) (S : Sound d) (hs ns ds xs ys : List ℕ) (e : store hs n
       ∙ ap (λ (x : Table). view (filingIn b) (pointsOf (b .lines)) (startsOf (b .lines)) (length (b .lines)) (length (b .links)) x a) et
       ∙ ap (λ (x : Adjacency). view (filingIn b) (pointsOf (b .lines)) (startsOf (b .lines)) (length (b .lines)) (length (b .links)) noNodes x) ea
 
-  pub distances-held : AllDistances (filing (keyed ds xs ys) ns hs) (points (d .xs) (d .ys))
-  unfolding one two
-  distances-held = subst (λ (v : View). AllDistances (v .filing-is) (v .points-is)) (sym same-view) (distances-in (drawingFrom d) (S .counts) (S .links-fit))
+  pub low-held : LowPoints (points xs ys)
+  low-held = subst (λ (f : Filing). LowPoints (f .ends)) (sym filing-same) (low-places (drawingFrom d .links) (S .links-on))
 
-  pub ready-held : Ready (movesIn (filing (keyed ds xs ys) ns hs) (points (d .xs) (d .ys)) (d .starts) (d .lines) (d .«link_count»)) (traced t a 0 0 0)
+  pub ready-held : Ready (movesIn (filing (points xs ys) ns hs) (points (d .xs) (d .ys)) (d .starts) (d .lines) (d .«link_count»)) (traced t a 0 0 0)
   unfolding one two
   ready-held = subst (λ (v : View). Ready (viewMoves v) (viewState v)) (sym same-view) (all-ready (drawingFrom d) (S .counts) (S .links-fit) (S .lines-on) (S .links-on))
 
-  pub built-held : (s : Traced) → s ≡ tracedAlong origin (movesIn (filing (keyed ds xs ys) ns hs) (points (d .xs) (d .ys)) (d .starts) (d .lines) (d .«link_count»)) (traced t a 0 0 0)
+  pub built-held : (s : Traced) → s ≡ tracedAlong origin (movesIn (filing (points xs ys) ns hs) (points (d .xs) (d .ys)) (d .starts) (d .lines) (d .«link_count»)) (traced t a 0 0 0)
       → Built (buildGraph (drawingFrom d)) (s .nodeCount) (s .edgeCount) (s .table .xs) (s .table .ys) (s .edges)
   unfolding one two
   built-held s h = all-built (drawingFrom d) (S .counts) (S .links-fit) (S .lines-on) (S .links-on) s (h ∙ ap (λ (v : View). tracedAlong origin (viewMoves v) (viewState v)) same-view)

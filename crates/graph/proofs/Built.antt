@@ -12,7 +12,8 @@ use Rattle.drawing_spec.specs.Accepted.{Counts}
 use Rattle.graph_spec.specs.Graph.{Edge, Graph, noPoint, buildGraph}
 use Rattle.graph_spec.specs.Weights.{Searchable}
 use Rattle.graph_spec.proofs.Built.{built-inside, built-on}
-use Rattle.graph_counts.proofs.Nodes.{Few, counted-few}
+use Rattle.graph_counts.specs.Few.{Few}
+use Rattle.graph_counts.proofs.Nodes.{counted-few}
 use Rattle.graph_counts.proofs.Lengths.{drawn-searchable}
 use Rattle.graph_nodes.specs.Table.{Table}
 use Rattle.graph_nodes.specs.Held.{Held}

@@ -5,7 +5,7 @@ use Prim.Native.Nat.{ℕ, zero-le, _+_, _-_, _*_, _≤_, _<_}
 use native.Mathlib.Omega.{arith}
 use lib.ListN.{length, getD, replicate}
 use mathlib.Core.Bool.{true}
-use Rattle.limits.specs.Limits.{mostLines, mostPoints}
+use Rattle.limits.specs.Limits.{mostLines, mostPoints, mostSplits}
 use Rattle.drawing_spec.specs.Drawing.{Point, Link, Drawing}
 use Rattle.drawing_spec.specs.Members.{All}
 use Rattle.drawing_spec.proofs.Members.{all-imp}
@@ -27,12 +27,13 @@ use Rattle.graph_moves.specs.Room.{Room}
 use Rattle.graph_counts.proofs.Nodes.{counted-few}
 use Rattle.graph_strokes.specs.Step.{Traced, traced, TracedTo}
 use Rattle.graph_strokes.proofs.StepLaws.{traced-none}
-use Rattle.graph_chain.specs.Along.{tracedAlong, Traceable, Low}
+use Rattle.graph_splits.specs.Points.{Low}
+use Rattle.graph_chain.specs.Along.{tracedAlong, Traceable}
 use Rattle.graph_chain.proofs.Along.{held-along}
-use Rattle.graph_line.specs.Lines.{Filing, chainsOf, origin, Ready, AllDistances}
+use Rattle.graph_line.specs.Lines.{Filing, chainsOf, origin, Ready}
 use Rattle.graph_lines.specs.All.{linesIn, linksIn}
 use Rattle.graph_filed.proofs.Ends.{number, endX, endY, filingOf}
-use Rattle.graph_filed.proofs.Chains.{all-distances, chain-same}
+use Rattle.graph_filed.proofs.Chains.{chain-same}
 use Rattle.graph_filed.proofs.Starts.{startsOf, pointsOf, LinkOk, links-ok, ends-below, ends-named, segment-below}
 use Rattle.graph_filed.proofs.Same.{lines-same, links-same}
 use Rattle.graph.specs.Whole.{movesIn}
@@ -45,7 +46,7 @@ nothing = traced noNodes noEdges 0 0 0
 
 -- the filing of a drawing's links
 abbrev pub filingIn : Drawing → Filing
-filingIn d = filingOf (startsOf (d .lines)) (pointsOf (d .lines)) (endsOf (d .links))
+filingIn d = filingOf (startsOf (d .lines)) (endsOf (d .links))
 
 ends-length : (ks : List Link) → length (endsOf ks) ≡ 2 * length ks
 unfolding endsOf
@@ -56,7 +57,7 @@ on-low : (p : Point) → OnGrid p → Low p
 on-low p h = (omega (arith, h .0), omega (arith, h .1))
 
 module _ (d : Drawing) (c : Counts d) (fit : linksFit d ≡ true) where
-  pub ends-few : length (endsOf (d .links)) ≤ 510
+  pub ends-few : length (endsOf (d .links)) ≤ mostSplits
   ends-few = omega (arith, ends-length (d .links), c .links)
 
   pub all-ok : All (LinkOk (d .lines)) (d .links)
@@ -66,12 +67,9 @@ module _ (d : Drawing) (c : Counts d) (fit : linksFit d ≡ true) where
   below : Below (map (number (startsOf (d .lines))) (endsOf (d .links)))
   below = ends-below (d .lines) (c .lines) (c .points) (d .links) all-ok
 
-  pub distances-in : AllDistances (filingIn d) (pointsOf (d .lines))
-  distances-in = all-distances (startsOf (d .lines)) (pointsOf (d .lines)) (endsOf (d .links)) ends-few below
-
   chains : (l s : ℕ) → l < length (d .lines) → s < length (getD (d .lines) l []) → (a b : Point) → chainsOf (filingIn d) (getD (startsOf (d .lines)) l 0 + s) a b ≡ chain (d .links) l s a b
   chains l s hl hs =
-      chain-same (startsOf (d .lines)) (pointsOf (d .lines)) (d .links) ends-few below l s (getD (startsOf (d .lines)) l 0 + s) (segment-below (d .lines) (c .points) l s hl hs)
+      chain-same (startsOf (d .lines)) (d .links) ends-few below l s (getD (startsOf (d .lines)) l 0 + s) (segment-below (d .lines) (c .points) l s hl hs)
       (ends-named (d .lines) (c .lines) (c .points) l s hl hs (d .links) all-ok)
 
   lines-are : linesIn (filingIn d) (pointsOf (d .lines)) (startsOf (d .lines)) (length (d .lines)) 0 ≡ linesMoves (d .links) 0 (d .lines)
@@ -80,15 +78,15 @@ module _ (d : Drawing) (c : Counts d) (fit : linksFit d ≡ true) where
       lines-same (d .links) (filingIn d) (pointsOf ls .xs) (pointsOf ls .ys) (startsOf ls) ls chains ls 0 0
       (replicate ((mostLines + 1) - length (0 ∷ endsFrom 0 ls)) 0) (replicate (mostPoints - length (xsOf (flat ls))) 0) (replicate (mostPoints - length (ysOf (flat ls))) 0) refl refl refl refl
 
-  links-are : linksIn (filingIn d .keyed) (length (d .links)) 0 ≡ linkMoves (d .links)
+  links-are : linksIn (filingIn d .ends) (length (d .links)) 0 ≡ linkMoves (d .links)
   links-are =
-      links-same (filingIn d .keyed) (d .links) 0
-      (replicate (510 - length (map endX (endsOf (d .links)))) 0) (replicate (510 - length (map endY (endsOf (d .links)))) 0) refl refl
+      links-same (filingIn d .ends) (d .links) 0
+      (replicate (mostSplits - length (map endX (endsOf (d .links)))) 0) (replicate (mostSplits - length (map endY (endsOf (d .links)))) 0) refl refl
 
   moves-are : movesIn (filingIn d) (pointsOf (d .lines)) (startsOf (d .lines)) (length (d .lines)) (length (d .links)) ≡ movesOf d
   unfolding movesOf
   moves-are =
-      ap (λ (ms : List Move). ms ++ linksIn (filingIn d .keyed) (length (d .links)) 0) lines-are ∙ ap (λ (ms : List Move). linesMoves (d .links) 0 (d .lines) ++ ms) links-are
+      ap (λ (ms : List Move). ms ++ linksIn (filingIn d .ends) (length (d .links)) 0) lines-are ∙ ap (λ (ms : List Move). linesMoves (d .links) 0 (d .lines) ++ ms) links-are
 
   module _ (lo : All (All OnGrid) (d .lines)) (ko : All (AtEnds OnGrid) (d .links)) where
     traceable : Traceable origin (movesOf d) nothing

@@ -2,7 +2,7 @@
 use mathlib.Core.Path.{_≡_, refl, sym, ap, subst, _∙_}
 use mathlib.Core.List.{List, [], _∷_, _++_}
 use mathlib.Core.Bool.{Bool, true, false}
-use Prim.Native.Nat.{ℕ, suc, _+_, _-_, _≤_, _<_}
+use Prim.Native.Nat.{ℕ, suc, _+_, _-_, _*_, _≤_, _<_}
 use native.Mathlib.Nat.{add-zero, zero-add, add-suc, suc-add}
 use native.Mathlib.Omega.{arith}
 use lib.ListN.{length, getD, set, length-set, length-replicate, getD-replicate}
@@ -11,7 +11,7 @@ use lib.Dec.{eqb}
 use lib.IntN.{pos}
 use lib.Ieee.{Float, nan, fin}
 use borrow.Author.Tests.{eqb-true, eqb-false}
-use Rattle.limits.specs.Limits.{mostNodes, edgeRoom}
+use Rattle.limits.specs.Limits.{mostNodes, edgeRoom, arcRoom}
 use Rattle.graph_spec.specs.Graph.{Edge, Arc, newestFirst, edgesAt}
 use Rattle.graph_adjacency.specs.Lists.{Adjacency, noEdges, push, pushed, firstArc, nextArc, edgeNumber, arcAt, lists, orElse}
 use Rattle.graph_adjacency.proofs.Lists.{else-some, else-none, else-below, next-second, next-first, number-second, number-first}
@@ -19,10 +19,10 @@ use Rattle.graph_adjacency.specs.Follow.{AtArc, Ends, Follows}
 
 -- the arrays have their lengths
 pub record Sized (g : Adjacency) : Type 0 where
-  pub ends-long : length (g .ends) ≡ 8002
-  pub weights-long : length (g .weights) ≡ 4001
-  pub next-long : length (g .next) ≡ 8002
-  pub heads-long : length (g .heads) ≡ 3068
+  pub ends-long : length (g .ends) ≡ arcRoom
+  pub weights-long : length (g .weights) ≡ edgeRoom
+  pub next-long : length (g .next) ≡ arcRoom
+  pub heads-long : length (g .heads) ≡ (2 * mostNodes)
 
 pub push-sized : (e u v : ℕ) (x : Float) (g : Adjacency) → Sized g → Sized (push e u v x g)
 unfolding push
@@ -37,7 +37,7 @@ push-sized e u v x g s = record {
 other-two : {A : Type 0} (l : List A) (i j k : ℕ) (x y d : A) → (k ≡ i → ⊥) → (k ≡ j → ⊥) → getD (set (set l i x) j y) k d ≡ getD l k d
 other-two l i j k x y d p q = getD-set-other (set l i x) j k y d q ∙ getD-set-other l i k x d p
 
--- ---- the list by one end: o is 4001 by first ends, 0 by second ends
+-- ---- the list by one end: o is edgeRoom by first ends, 0 by second ends
 
 -- From the link k on the list holds the arcs rs, of edges with numbers below m, each older than the one before.
 Linked : ℕ → ℕ → Adjacency → ℕ → List Arc → Type 0
@@ -47,8 +47,8 @@ Linked o m g k (r ∷ rs) =
     × Linked o (r .number) g (getD (g .next) (r .number + o) 0) rs
 
 -- a newer edge leaves it
-module _ (o : ℕ) (apart : (n i : ℕ) → n < i → i < 4001 → (n + o ≡ i → ⊥) × (n + o ≡ i + edgeRoom → ⊥)) where
-  linked-push : (m i u v : ℕ) (x : Float) (g : Adjacency) (k : ℕ) (rs : List Arc) → m ≤ i → i < 4001 → Linked o m g k rs → Linked o m (push i u v x g) k rs
+module _ (o : ℕ) (apart : (n i : ℕ) → n < i → i < edgeRoom → (n + o ≡ i → ⊥) × (n + o ≡ i + edgeRoom → ⊥)) where
+  linked-push : (m i u v : ℕ) (x : Float) (g : Adjacency) (k : ℕ) (rs : List Arc) → m ≤ i → i < edgeRoom → Linked o m g k rs → Linked o m (push i u v x g) k rs
   unfolding push Linked
   linked-push m i u v x g k [] h f l = l
   linked-push m i u v x g k (r ∷ rs) h f l =
@@ -89,10 +89,10 @@ record Stepped (o h near far i : ℕ) (x : Float) (g g' : Adjacency) (w : ℕ) :
   weight-is : getD (g' .weights) i nan ≡ x
   next-is : getD (g' .next) (i + o) 0 ≡ getD (g .heads) (near + h) 0
 
-module _ (o h : ℕ) (near far : Edge → ℕ) (w : ℕ) (apart : (n i : ℕ) → n < i → i < 4001 → (n + o ≡ i → ⊥) × (n + o ≡ i + edgeRoom → ⊥))
-    (steps : (i : ℕ) (e : Edge) (g : Adjacency) → Sized g → i < 4001 → e .a < mostNodes → e .b < mostNodes
+module _ (o h : ℕ) (near far : Edge → ℕ) (w : ℕ) (apart : (n i : ℕ) → n < i → i < edgeRoom → (n + o ≡ i → ⊥) × (n + o ≡ i + edgeRoom → ⊥))
+    (steps : (i : ℕ) (e : Edge) (g : Adjacency) → Sized g → i < edgeRoom → e .a < mostNodes → e .b < mostNodes
     → Stepped o h (near e) (far e) i (e .weight) g (push i (e .a) (e .b) (e .weight) g) w) where
-  turn : (i : ℕ) (e : Edge) (g : Adjacency) (found : List Arc) → i < 4001
+  turn : (i : ℕ) (e : Edge) (g : Adjacency) (found : List Arc) → i < edgeRoom
       → Stepped o h (near e) (far e) i (e .weight) g (push i (e .a) (e .b) (e .weight) g) w
       → Linked o i g (getD (g .heads) (w + h) 0) found → (t : Bool) → eqb (near e) w ≡ t
       → Linked o (suc i) (push i (e .a) (e .b) (e .weight) g) (getD (push i (e .a) (e .b) (e .weight) g .heads) (w + h) 0)
@@ -112,13 +112,13 @@ module _ (o h : ℕ) (near far : Edge → ℕ) (w : ℕ) (apart : (n i : ℕ) �
   newest-elim i e es found true = refl
   newest-elim i e es found false = refl
 
-  linked-all : (i : ℕ) (es : List Edge) (g : Adjacency) (found : List Arc) → Sized g → i + length es ≤ 4001 → Ends es
+  linked-all : (i : ℕ) (es : List Edge) (g : Adjacency) (found : List Arc) → Sized g → i + length es ≤ edgeRoom → Ends es
       → Linked o i g (getD (g .heads) (w + h) 0) found
       → Linked o (i + length es) (pushed i es g) (getD (pushed i es g .heads) (w + h) 0) (newestFirst near far w i es found)
   unfolding pushed newestFirst Ends
   linked-all i [] g found s b n l = subst (λ (q : ℕ). Linked o q g (getD (g .heads) (w + h) 0) found) (sym (add-zero i)) l
   linked-all i (e ∷ es) g found s b n l =
-      let f : i < 4001 = omega arith in
+      let f : i < edgeRoom = omega arith in
       let g' = push i (e .a) (e .b) (e .weight) g in
       let more = turn i e g found f (steps i e g s f (n .0) (n .1)) l (eqb (near e) w) refl in
       let rest = linked-all (suc i) es g' _ (push-sized i (e .a) (e .b) (e .weight) g s) (omega arith) (n .2) more in
@@ -127,8 +127,8 @@ module _ (o h : ℕ) (near far : Edge → ℕ) (w : ℕ) (apart : (n i : ℕ) �
 
 -- ---- the two ends
 
-by-first : (w : ℕ) → w < mostNodes → (i : ℕ) (e : Edge) (g : Adjacency) → Sized g → i < 4001 → e .a < mostNodes → e .b < mostNodes
-    → Stepped 4001 0 (e .a) (e .b) i (e .weight) g (push i (e .a) (e .b) (e .weight) g) w
+by-first : (w : ℕ) → w < mostNodes → (i : ℕ) (e : Edge) (g : Adjacency) → Sized g → i < edgeRoom → e .a < mostNodes → e .b < mostNodes
+    → Stepped edgeRoom 0 (e .a) (e .b) i (e .weight) g (push i (e .a) (e .b) (e .weight) g) w
 unfolding push
 by-first w hw i e g s f ha hb =
     let ends' = set (g .ends) i (e .a) in
@@ -150,7 +150,7 @@ by-first w hw i e g s f ha hb =
       next-is = getD-set-other next' i (i + edgeRoom) _ 0 off ∙ getD-set-same (g .next) (i + edgeRoom) _ 0 room-next ∙ ap (λ (q : ℕ). getD (g .heads) q 0) (sym (add-zero (e .a)));
     }
 
-by-second : (w : ℕ) → w < mostNodes → (i : ℕ) (e : Edge) (g : Adjacency) → Sized g → i < 4001 → e .a < mostNodes → e .b < mostNodes
+by-second : (w : ℕ) → w < mostNodes → (i : ℕ) (e : Edge) (g : Adjacency) → Sized g → i < edgeRoom → e .a < mostNodes → e .b < mostNodes
     → Stepped 0 mostNodes (e .b) (e .a) i (e .weight) g (push i (e .a) (e .b) (e .weight) g) w
 unfolding push
 by-second w hw i e g s f ha hb =
@@ -200,7 +200,7 @@ module _ (g : Adjacency) (v : ℕ) where
   unfolding arcAt
   arc-is k r hn ht hx = rw (hn, ht, hx)
 
-  second-follows : (m k : ℕ) (rs : List Arc) → m ≤ 4001 → Linked 0 m g k rs → Follows g v k rs
+  second-follows : (m k : ℕ) (rs : List Arc) → m ≤ edgeRoom → Linked 0 m g k rs → Follows g v k rs
   unfolding Linked Follows
   second-follows m k [] h l = l
   second-follows m k (r ∷ rs) h l =
@@ -218,48 +218,48 @@ module _ (g : Adjacency) (v : ℕ) where
       )
 
   -- the list by first ends, and then the one by second ends
-  both-follow : (m k : ℕ) (rs bs : List Arc) → m ≤ 4001 → Linked 4001 m g k rs → getD (g .heads) (v + mostNodes) 0 ≤ 4001 → Follows g v (getD (g .heads) (v + mostNodes) 0) bs
+  both-follow : (m k : ℕ) (rs bs : List Arc) → m ≤ edgeRoom → Linked edgeRoom m g k rs → getD (g .heads) (v + mostNodes) 0 ≤ edgeRoom → Follows g v (getD (g .heads) (v + mostNodes) 0) bs
       → Follows g v (orElse k (getD (g .heads) (v + mostNodes) 0)) (rs ++ bs)
   unfolding Linked Follows
   both-follow m k [] bs h l b f = subst (λ (q : ℕ). Follows g v q bs) (sym (else-none k _ l)) f
   both-follow m k (r ∷ rs) bs h l b f =
-      let at : k - 1 ≡ r .number + 4001 = omega (arith, l .0) in
+      let at : k - 1 ≡ r .number + edgeRoom = omega (arith, l .0) in
       let high : edgeRoom < k = omega (arith, l .0) in
       let is : k - (edgeRoom + 1) ≡ r .number = omega (arith, l .0) in
       let second = getD (g .heads) (v + mostNodes) 0 in
       let next = next-first (g .next) (g .heads) v k high ∙ ap (λ (q : ℕ). orElse (getD (g .next) q 0) second) at in
-      let bound = linked-bound 4001 (r .number) g _ rs (l .4) in
+      let bound = linked-bound edgeRoom (r .number) g _ rs (l .4) in
       let at-arc : AtArc g v k r = record {
         some = omega (arith, l .0);
         within = omega (arith, l .0, l .1);
         is = arc-is k r (number-first k high ∙ is) (ap (λ (q : ℕ). getD (g .ends) q 0) at ∙ l .2) (l .3);
-        falls = subst (λ (q : ℕ). q < k) (sym next) (else-below (getD (g .next) (r .number + 4001) 0) second k (omega (arith, bound, l .0)) (omega arith));
+        falls = subst (λ (q : ℕ). q < k) (sym next) (else-below (getD (g .next) (r .number + edgeRoom) 0) second k (omega (arith, bound, l .0)) (omega arith));
       } in
       let rest = both-follow (r .number) _ rs bs (omega (arith, l .1)) (l .4) b f in
       subst (λ (q : ℕ). Follows g v q ((r ∷ rs) ++ bs)) (sym (else-some k second (omega (arith, l .0))))
       (at-arc, subst (λ (q : ℕ). Follows g v q (rs ++ bs)) (sym next) rest)
 
 no-edges-sized : Sized noEdges
-no-edges-sized = record { ends-long = length-replicate {A = ℕ} 8002 0; weights-long = length-replicate {A = Float} 4001 (fin false 0 (pos 0)); next-long = length-replicate {A = ℕ} 8002 0; heads-long = length-replicate {A = ℕ} 3068 0 }
+no-edges-sized = record { ends-long = length-replicate {A = ℕ} arcRoom 0; weights-long = length-replicate {A = Float} edgeRoom (fin false 0 (pos 0)); next-long = length-replicate {A = ℕ} arcRoom 0; heads-long = length-replicate {A = ℕ} (2 * mostNodes) 0 }
 
 -- The list of a node, from its first arc, is its edges in document 01's order.
-pub lists-follow : (es : List Edge) (v : ℕ) → length es ≤ 4001 → Ends es → v < mostNodes → Follows (lists es) v (firstArc (lists es .heads) v) (edgesAt es v)
+pub lists-follow : (es : List Edge) (v : ℕ) → length es ≤ edgeRoom → Ends es → v < mostNodes → Follows (lists es) v (firstArc (lists es .heads) v) (edgesAt es v)
 unfolding lists edgesAt firstArc Linked
 lists-follow es v h n hv =
     let g = pushed 0 es noEdges in
-    let few : 0 + length es ≤ 4001 = omega arith in
-    let none-first : getD (noEdges .heads) (v + 0) 0 ≡ 0 = getD-replicate 3068 (v + 0) 0 0 (omega arith) in
-    let none-second : getD (noEdges .heads) (v + mostNodes) 0 ≡ 0 = getD-replicate 3068 (v + mostNodes) 0 0 (omega arith) in
-    let firsts = linked-all 4001 0 (λ (e : Edge). e .a) (λ (e : Edge). e .b) v (λ n i p q. (omega arith, omega arith)) (by-first v hv) 0 es noEdges [] no-edges-sized few n none-first in
+    let few : 0 + length es ≤ edgeRoom = omega arith in
+    let none-first : getD (noEdges .heads) (v + 0) 0 ≡ 0 = getD-replicate (2 * mostNodes) (v + 0) 0 0 (omega arith) in
+    let none-second : getD (noEdges .heads) (v + mostNodes) 0 ≡ 0 = getD-replicate (2 * mostNodes) (v + mostNodes) 0 0 (omega arith) in
+    let firsts = linked-all edgeRoom 0 (λ (e : Edge). e .a) (λ (e : Edge). e .b) v (λ n i p q. (omega arith, omega arith)) (by-first v hv) 0 es noEdges [] no-edges-sized few n none-first in
     let seconds = linked-all 0 mostNodes (λ (e : Edge). e .b) (λ (e : Edge). e .a) v (λ n i p q. (omega arith, omega arith)) (by-second v hv) 0 es noEdges [] no-edges-sized few n none-second in
     let second = getD (g .heads) (v + mostNodes) 0 in
     let arcs = newestFirst (λ (e : Edge). e .b) (λ (e : Edge). e .a) v 0 es [] in
     let bound : second ≤ 0 + length es + 0 = linked-bound 0 (0 + length es) g second arcs seconds in
-    let low : second ≤ 4001 = omega arith in
+    let low : second ≤ edgeRoom = omega arith in
     let tail = second-follows g v (0 + length es) second arcs few seconds in
     let first = getD (g .heads) v 0 in
     let older = newestFirst (λ (e : Edge). e .a) (λ (e : Edge). e .b) v 0 es [] in
-    let firsts-at : Linked 4001 (0 + length es) g first older = subst (λ (q : ℕ). Linked 4001 (0 + length es) g (getD (g .heads) q 0) older) (add-zero v) firsts in
+    let firsts-at : Linked edgeRoom (0 + length es) g first older = subst (λ (q : ℕ). Linked edgeRoom (0 + length es) g (getD (g .heads) q 0) older) (add-zero v) firsts in
     let all = both-follow g v (0 + length es) first older arcs few firsts-at low tail in
     subst (λ (q : List Arc). Follows g v (firstArc (g .heads) v) q) (sym (newest-append (λ (e : Edge). e .a) (λ (e : Edge). e .b) v 0 es [] arcs)) all
 

@@ -1,5 +1,5 @@
 -- The edges of a graph in flat lists, and what is read of them.
-use Prim.Native.Nat.{ℕ, suc, _+_, _-_}
+use Prim.Native.Nat.{ℕ, suc, _+_, _-_, _*_}
 use mathlib.Core.List.{List, [], _∷_}
 use mathlib.Core.Bool.{Bool, true, false}
 use lib.ListN.{getD, set, replicate}
@@ -9,9 +9,9 @@ use lib.Ieee.{Float, nan, fin}
 use Rattle.limits.specs.Limits.{mostNodes, edgeRoom, arcRoom}
 use Rattle.graph_spec.specs.Graph.{Edge, Arc}
 
--- An arc is an edge seen from one of its ends. The edge e has the arc e + 1 from its second end, and e + 4002 from its first; 0 is no arc.
--- `ends` has at k - 1 the node that the arc k leads to: so the edge's first end at e, its second at e + 4001.
--- `next` has at k - 1 the arc of the next older edge that has the same node as the same end, and `heads` has the newest such arc: at v by first ends, at v + 1534 by second ends.
+-- An arc is an edge seen from one of its ends. The edge e has the arc e + 1 from its second end, and e + edgeRoom + 1 from its first; 0 is no arc.
+-- `ends` has at k - 1 the node that the arc k leads to: so the edge's first end at e, its second at e + edgeRoom.
+-- `next` has at k - 1 the arc of the next older edge that has the same node as the same end, and `heads` has the newest such arc: at v by first ends, at v + mostNodes by second ends.
 pub record Adjacency : Type 0 where
   pub ends : List ℕ
   pub weights : List Float
@@ -22,7 +22,7 @@ abbrev pub adjacency : List ℕ → List Float → List ℕ → List ℕ → Adj
 adjacency es ws ns hs = record { ends = es; weights = ws; next = ns; heads = hs }
 
 abbrev pub noEdges : Adjacency
-noEdges = adjacency (replicate arcRoom 0) (replicate edgeRoom (fin false 0 (pos 0))) (replicate arcRoom 0) (replicate 3068 0)
+noEdges = adjacency (replicate arcRoom 0) (replicate edgeRoom (fin false 0 (pos 0))) (replicate arcRoom 0) (replicate (2 * mostNodes) 0)
 
 -- with the edge number e, from u to v, of weight x
 unfoldable pub push : ℕ → ℕ → ℕ → Float → Adjacency → Adjacency

@@ -1,15 +1,16 @@
 // The edges of a graph in flat arrays, with a list of each node's edges.
 //
 // An arc is an edge seen from one of its ends: edge e has the arc e + 1 from its second end and the arc
-// e + 4002 from its first; 0 is no arc. `ends` has at k - 1 the node that arc k leads to, `next` at k - 1
+// e + FIRST_END from its first; 0 is no arc. `ends` has at k - 1 the node that arc k leads to, `next` at k - 1
 // the arc of the next older edge that has the same node as the same end. `heads` has the newest arc of
-// each node v: at v by first ends, at v + 1534 by second ends.
+// each node v: at v by first ends, at v + MOST_NODES by second ends.
 ghost use mathlib.Core.Path.{_≡_};
 ghost use Prim.Native.Nat.{_<_, _≤_};
 ghost use lib.ListN.{getD};
 ghost use lib.Ieee.{nan};
 ghost use Rattle.limits.specs.Limits.{mostNodes, edgeRoom, arcRoom};
 ghost use Rattle.graph_adjacency.specs.Lists.{adjacency, push, firstArc, nextArc, edgeNumber};
+use limits::ARC_ROOM;
 use limits::EDGE_ROOM;
 use limits::MOST_NODES;
 
@@ -18,9 +19,9 @@ const FIRST_END: usize = EDGE_ROOM + 1;
 
 // The arrays with edge number e, from u to v.
 pub fn push_edge(
-    ends: &mut [u16; 2 * EDGE_ROOM],
+    ends: &mut [u16; ARC_ROOM],
     weights: &mut [f64; EDGE_ROOM],
-    next: &mut [u16; 2 * EDGE_ROOM],
+    next: &mut [u16; ARC_ROOM],
     heads: &mut [u16; 2 * MOST_NODES],
     e: usize,
     u: usize,
@@ -55,7 +56,7 @@ pub fn first_arc(heads: &[u16; 2 * MOST_NODES], v: usize) -> usize
 
 // The arc of the node v after its arc k; 0 after the last.
 pub fn next_arc(
-    next: &[u16; 2 * EDGE_ROOM],
+    next: &[u16; ARC_ROOM],
     heads: &[u16; 2 * MOST_NODES],
     v: usize,
     k: usize,

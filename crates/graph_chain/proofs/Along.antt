@@ -1,7 +1,6 @@
 -- Laws of specs/Along.
 use mathlib.Core.Path.{_≡_, refl, subst}
 use mathlib.Core.List.{List, [], _∷_, _++_, map-append}
-use Prim.Native.Nat.{_≤_, _<_}
 use native.Mathlib.Omega.{arith}
 use Rattle.drawing_spec.specs.Drawing.{Point}
 use Rattle.drawing_spec.specs.Members.{All}
@@ -13,9 +12,10 @@ use Rattle.graph_moves.specs.Built.{usesIn}
 use Rattle.graph_moves.proofs.Built.{stands-next}
 use Rattle.graph_moves.specs.Room.{Room}
 use Rattle.graph_moves.proofs.Room.{along-room}
-use Rattle.graph_strokes.specs.Step.{Traced, TracedTo}
-use Rattle.graph_strokes.proofs.StepLaws.{step-traced, begin-traced}
-use Rattle.graph_chain.specs.Along.{Low, Traceable, tracedAlong, tracedBy}
+use Rattle.graph_splits.specs.Points.{Low}
+use Rattle.graph_strokes.specs.Step.{NodeReady, StepReady, Traced, TracedTo}
+use Rattle.graph_strokes.proofs.StepLaws.{node-ready, step-traced, begin-traced}
+use Rattle.graph_chain.specs.Along.{Traceable, tracedAlong, tracedBy}
 
 pub traced-append : (p : Point) (ms ks : List Move) (s : Traced) → tracedAlong p (ms ++ ks) s ≡ tracedAlong (endOf p ms) ks (tracedAlong p ms s)
 unfolding tracedAlong endOf
@@ -24,26 +24,24 @@ traced-append p (m ∷ ms) ks s = traced-append (to m) ms ks (tracedBy p m s)
 
 -- ---- what one move needs
 
-pub record StepReady (p q : Point) (s : Traced) : Type 0 where
-  pub nodes-fit : s .nodeCount ≤ 1534
-  pub edges-fit : s .edgeCount < 4001
-  pub node-fits : s .node < 1534
-  pub from-low : Low p
-  pub to-low : Low q
-
 pub step-ready : (p q : Point) (ms : List Move) (s : Traced) → Traceable p (on q ∷ ms) s → StepReady p q s
+unfolding along moved
 step-ready p q ms s t =
-    let r = along-room p (on q ∷ ms) (t .so-far) (t .room) in
+    let g = t .so-far in
+    let r = along-room p (on q ∷ ms) g (t .room) in
     record {
-      nodes-fit = omega (arith, r .0, t .held .nodes-counted);
+      node-ready = node-ready (g .nodes) (g .edges) p q s (t .held) (along-room q ms (moved p (on q) g) (t .room) .0) (r .0);
       edges-fit = omega (arith, r .1, t .held .edges-counted);
       node-fits = omega (arith, r .0, t .held .node-is, t .stands);
       from-low = t .here;
       to-low = t .places .0;
     }
 
-pub begin-ready : (p : Point) (ms : List Move) (s : Traced) → Traceable p ms s → s .nodeCount ≤ 1534
-begin-ready p ms s t = omega (arith, along-room p ms (t .so-far) (t .room) .0, t .held .nodes-counted)
+pub begin-ready : (p q : Point) (ms : List Move) (s : Traced) → Traceable p (start q ∷ ms) s → NodeReady q (s .nodeCount) (s .table)
+unfolding along moved
+begin-ready p q ms s t =
+    let g = t .so-far in
+    node-ready (g .nodes) (g .edges) p q s (t .held) (along-room q ms (moved p (start q) g) (t .room) .0) (along-room p (start q ∷ ms) g (t .room) .0)
 
 -- ---- and what it leaves
 
@@ -51,7 +49,7 @@ moved-held : (p : Point) (m : Move) (ms : List Move) (s : Traced) (g : Graph) �
     → TracedTo (moved p m g .nodes) (moved p m g .edges) (to m) (tracedBy p m s)
 unfolding moved tracedBy
 moved-held p (start q) ms s g h n r = begin-traced (g .nodes) (g .edges) p q s h (r .0)
-moved-held p (on q) ms s g h n r = step-traced (g .nodes) (g .edges) p q s h n (r .0)
+moved-held p (on q) ms s g h n r = step-traced (g .nodes) (g .edges) p q s h (r .0) n
 
 moved-stands : (p : Point) (m : Move) (ms : List Move) (g : Graph) → Stands (moved p m g .nodes) (to m) ms
 unfolding moved

@@ -1,37 +1,18 @@
 -- Laws of specs/Kept.
 use mathlib.Core.Path.{_≡_, refl, sym, ap, _∙_}
-use mathlib.Core.Bool.{Bool, true, false, _&&_, not}
+use mathlib.Core.Bool.{Bool, true, false}
 use mathlib.Core.List.{List, [], _∷_}
 use Prim.Native.Nat.{ℕ, zero, suc, _+_, _-_, _≤_, _<_}
 use native.Mathlib.Omega.{arith}
 use native.Mathlib.Numerals.{add-one}
 use lib.ListN.{getD}
-use borrow.Author.Tests.{not-true, not-false}
-use Rattle.drawing_spec.proofs.Same.{both}
-use Rattle.drawing_spec.specs.Drawing.{Point, same}
+use Rattle.drawing_spec.specs.Drawing.{Point}
 use Rattle.graph_spec.specs.Chain.{inner, changes}
 use Rattle.graph_splits.specs.Buffer.{pick}
 use Rattle.graph_splits.specs.Next.{at, keeps, nextSplit}
+use Rattle.graph_splits.proofs.Next.{stay, gone}
 use Rattle.file.specs.Back.{pointsBack}
 use Rattle.graph_chain.specs.Kept.{keptFrom}
-
-module _ (a b l : Point) where
-  stay : (p : Point) (ps : List Point) → keeps a b l p ≡ true → changes l (inner a b (p ∷ ps)) ≡ p ∷ changes p (inner a b ps)
-  unfolding keeps inner changes
-  stay p ps h =
-      let parts = both (not (same p a) && not (same p b)) (not (same p l)) h in
-      ap (λ (s : Bool). changes l (elim s [ true ↦ p ∷ inner a b ps | false ↦ inner a b ps ])) (parts .0)
-      ∙ ap (λ (t : Bool). elim t [ true ↦ changes l (inner a b ps) | false ↦ p ∷ changes p (inner a b ps) ]) (not-true (same p l) (parts .1))
-
-  gone : (p : Point) (ps : List Point) → keeps a b l p ≡ false → changes l (inner a b (p ∷ ps)) ≡ changes l (inner a b ps)
-  unfolding keeps inner changes
-  gone p ps h = go (not (same p a) && not (same p b)) refl h
-    where
-      go : (s : Bool) → not (same p a) && not (same p b) ≡ s → s && not (same p l) ≡ false → changes l (inner a b (p ∷ ps)) ≡ changes l (inner a b ps)
-      go true e k =
-          ap (λ (s : Bool). changes l (elim s [ true ↦ p ∷ inner a b ps | false ↦ inner a b ps ])) e
-          ∙ ap (λ (t : Bool). elim t [ true ↦ changes l (inner a b ps) | false ↦ p ∷ changes p (inner a b ps) ]) (not-false (same p l) k)
-      go false e k = ap (λ (s : Bool). changes l (elim s [ true ↦ p ∷ inner a b ps | false ↦ inner a b ps ])) e
 
 module _ (xs ys : List ℕ) (a b l : Point) where
   abbrev here : ℕ → Point

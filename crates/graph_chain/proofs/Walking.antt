@@ -7,9 +7,9 @@ use lib.ListN.{getD}
 use Rattle.drawing_spec.specs.Drawing.{Point}
 use Rattle.graph_splits.specs.Next.{at, nextSplit}
 use Rattle.graph_moves.specs.Moves.{on, drawAll}
-use Rattle.graph_strokes.specs.Step.{Traced, stepped}
+use Rattle.graph_strokes.specs.Step.{StepReady, Traced, stepped}
 use Rattle.graph_chain.specs.Along.{tracedBy, tracedAlong, Traceable}
-use Rattle.graph_chain.proofs.Along.{StepReady, step-ready, traceable-next}
+use Rattle.graph_chain.proofs.Along.{step-ready, traceable-next}
 use Rattle.graph_chain.specs.Kept.{keptFrom, chainIn}
 use Rattle.graph_chain.proofs.Kept.{kept-none, kept-one}
 

@@ -1,12 +1,12 @@
 -- The nodes and edges in flat lists along a list of moves: what the code makes of them is the graph along these moves. Assumes nothing.
 use mathlib.Core.List.{List, [], _∷_}
-use Prim.Native.Nat.{_≤_, _^_}
 use Rattle.drawing_spec.specs.Drawing.{Point}
 use Rattle.drawing_spec.specs.Members.{All}
 use Rattle.graph_spec.specs.Graph.{Graph}
 use Rattle.graph_moves.specs.Moves.{Move, start, on, to, along, Stands}
 use Rattle.graph_moves.specs.Built.{usesIn}
 use Rattle.graph_moves.specs.Room.{Room}
+use Rattle.graph_splits.specs.Points.{Low}
 use Rattle.graph_strokes.specs.Step.{Traced, stepped, begun, TracedTo}
 
 -- one move, from p
@@ -17,10 +17,6 @@ tracedBy p (on q) s = stepped p q s
 unfoldable pub tracedAlong : Point → List Move → Traced → Traced
 tracedAlong p [] s = s
 tracedAlong p (m ∷ ms) s = tracedAlong (to m) ms (tracedBy p m s)
-
--- a place that lengths can be made of
-abbrev pub Low : Point → Type 0
-Low p = (p .x ≤ 2 ^ 24) × (p .y ≤ 2 ^ 24)
 
 -- The flat lists are those of a graph with the walk at p, and the moves to come, from p, stay within the room for nodes and edges.
 pub record Traceable (p : Point) (ms : List Move) (s : Traced) : Type 0 where

@@ -5,7 +5,6 @@ use mathlib.Core.List.{List, [], _∷_, _++_, map}
 use Prim.Native.Nat.{ℕ, suc, _+_, _-_, _*_, _≤_, _<_, suc-le-suc}
 use native.Mathlib.Omega.{arith}
 use lib.ListN.{length, length-append}
-use Rattle.limits.specs.Limits.{mostNodes, mostPoints, mostLinks}
 use Rattle.drawing_spec.specs.Drawing.{Point, End, Link, Drawing}
 use Rattle.drawing_spec.specs.Members.{In, All}
 use Rattle.drawing_spec.proofs.Members.{all-in, in-all, in-left}
@@ -19,6 +18,7 @@ use Rattle.graph_spec.specs.Graph.{pointAt, buildGraph}
 use Rattle.graph_spec.proofs.Nodes.{distinct, uses-all}
 use Rattle.graph_spec.proofs.Strokes.{uses-of-all}
 use Rattle.graph_spec.proofs.Built.{built-numbered}
+use Rattle.graph_counts.specs.Few.{Few}
 use Rattle.graph_counts.proofs.Edges.{pointsOf, edges-few}
 
 -- ---- different elements of a list are at most as many as it has
@@ -124,14 +124,6 @@ nodes-few d =
     )
 
 -- ---- after checks 1 to 8
-
--- 1,788
-abbrev pub mostDrawn : ℕ
-mostDrawn = mostPoints - 1 + 3 * mostLinks
-
-pub record Few (d : Drawing) : Type 0 where
-  pub nodes : length (buildGraph d .nodes) ≤ mostNodes
-  pub edges : length (buildGraph d .edges) ≤ mostDrawn
 
 pub counted-few : (d : Drawing) → Counts d → Few d
 counted-few d c = record { nodes = omega (arith, nodes-few d, c .points, c .links); edges = omega (arith, edges-few d, c .points, c .links) }

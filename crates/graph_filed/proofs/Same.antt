@@ -12,13 +12,13 @@ use borrow.Author.Tests.{lt-ltb, le-ltb}
 use Rattle.drawing_spec.specs.Drawing.{Point, Link}
 use Rattle.graph_spec.specs.Chain.{chain}
 use Rattle.graph_splits.specs.Next.{at}
-use Rattle.graph_segment_ends.specs.Gather.{Keyed, pointOf}
+use Rattle.graph_splits.specs.Points.{Points, points, pointIn}
 use Rattle.graph_segment_ends.proofs.Splits.{endsOf}
 use Rattle.file.specs.Stores.{flat, xsOf, ysOf, endsFrom}
 use Rattle.file.specs.Back.{pointsBack}
 use Rattle.graph_moves.specs.Moves.{Move, start, on, drawAll, lineMoves}
 use Rattle.graph_moves.proofs.Moves.{linesMoves, linkMoves}
-use Rattle.graph_line.specs.Lines.{Filing, points, pointIn, chainsOf, segmentsFrom, lineIn}
+use Rattle.graph_line.specs.Lines.{Filing, chainsOf, segmentsFrom, lineIn}
 use Rattle.graph_lines.specs.All.{linesIn, linksIn}
 use Rattle.graph_filed.proofs.Ends.{at-front, behind-front, endX, endY}
 
@@ -108,7 +108,7 @@ module _ (ks : List Link) (f : Filing) (xs ys starts : List ℕ) (all : List (Li
 
 -- ---- links
 
-pub links-same : (f : Keyed) (ks : List Link) (k : ℕ) (r s : List ℕ) → drop (2 * k) (f .xs) ≡ map endX (endsOf ks) ++ r → drop (2 * k) (f .ys) ≡ map endY (endsOf ks) ++ s → linksIn f (length ks) k ≡ linkMoves ks
+pub links-same : (f : Points) (ks : List Link) (k : ℕ) (r s : List ℕ) → drop (2 * k) (f .xs) ≡ map endX (endsOf ks) ++ r → drop (2 * k) (f .ys) ≡ map endY (endsOf ks) ++ s → linksIn f (length ks) k ≡ linkMoves ks
 unfolding linksIn linkMoves endsOf
 links-same f [] k r s ex ey = refl
 links-same f (l ∷ ks) k r s ex ey =
@@ -117,16 +117,16 @@ links-same f (l ∷ ks) k r s ex ey =
     let ty = map endY es ++ s in
     let x₁ : drop (suc (2 * k)) (f .xs) ≡ endX (l .second) ∷ tx = behind-front (f .xs) (2 * k) (endX (l .first)) 0 (endX (l .second) ∷ tx) ex in
     let y₁ : drop (suc (2 * k)) (f .ys) ≡ endY (l .second) ∷ ty = behind-front (f .ys) (2 * k) (endY (l .first)) 0 (endY (l .second) ∷ ty) ey in
-    let first : pointOf f (2 * k) ≡ l .first .point =
+    let first : pointIn f (2 * k) ≡ l .first .point =
     ap (λ (m : ℕ). at m (getD (f .ys) (2 * k) 0)) (at-front (f .xs) (2 * k) (endX (l .first)) 0 (endX (l .second) ∷ tx) ex)
     ∙ ap (at (endX (l .first))) (at-front (f .ys) (2 * k) (endY (l .first)) 0 (endY (l .second) ∷ ty) ey) in
-    let second : pointOf f (2 * k + 1) ≡ l .second .point =
-    ap (pointOf f) (add-one (2 * k))
+    let second : pointIn f (2 * k + 1) ≡ l .second .point =
+    ap (pointIn f) (add-one (2 * k))
     ∙ ap (λ (m : ℕ). at m (getD (f .ys) (suc (2 * k)) 0)) (at-front (f .xs) (suc (2 * k)) (endX (l .second)) 0 tx x₁)
     ∙ ap (at (endX (l .second))) (at-front (f .ys) (suc (2 * k)) (endY (l .second)) 0 ty y₁) in
     let two : 2 * (k + 1) ≡ suc (suc (2 * k)) = omega arith in
     let x₂ : drop (2 * (k + 1)) (f .xs) ≡ tx = ap (λ (j : ℕ). drop j (f .xs)) two ∙ behind-front (f .xs) (suc (2 * k)) (endX (l .second)) 0 tx x₁ in
     let y₂ : drop (2 * (k + 1)) (f .ys) ≡ ty = ap (λ (j : ℕ). drop j (f .ys)) two ∙ behind-front (f .ys) (suc (2 * k)) (endY (l .second)) 0 ty y₁ in
-    ap (λ (p : Point). start p ∷ on (pointOf f (2 * k + 1)) ∷ linksIn f (length ks) (k + 1)) first
+    ap (λ (p : Point). start p ∷ on (pointIn f (2 * k + 1)) ∷ linksIn f (length ks) (k + 1)) first
     ∙ ap (λ (p : Point). start (l .first .point) ∷ on p ∷ linksIn f (length ks) (k + 1)) second
     ∙ ap (λ (ms : List Move). start (l .first .point) ∷ on (l .second .point) ∷ ms) (links-same f ks (k + 1) r s x₂ y₂)

@@ -22,9 +22,9 @@ use Rattle.file_records.specs.declared.MstEdge.{MstEdge}
 use Rattle.file_records.specs.Body.{edgeFrom}
 use Rattle.file.specs.Held.{pastEnd}
 use Rattle.file.specs.Stores.{padded, flat, xsOf, ysOf, endsFrom}
-use Rattle.graph_line.specs.Lines.{Points, points}
+use Rattle.graph_splits.specs.Points.{Points, points}
 use Rattle.graph_lines.specs.All.{StartsInside}
-use Rattle.graph_filing.specs.Stored.{LowPoints, EndFits, LinkFits, LinksFit}
+use Rattle.graph_filing.specs.Stored.{EndFits, LinkFits, LinksFit}
 use Rattle.graph_filed.proofs.Ends.{number}
 use Rattle.graph_filed.proofs.Chains.{Names}
 
@@ -64,7 +64,7 @@ module _ (ls : List (List Point)) where
   S : ℕ → ℕ
   S i = getD (startsOf ls) i 0
 
-  pub starts-inside : total (lengths ls) ≤ 1024 → StartsInside (startsOf ls)
+  pub starts-inside : total (lengths ls) ≤ mostPoints → StartsInside (startsOf ls)
   starts-inside h = record { low = λ i. omega (arith, ends-low 0 ls ((mostLines + 1) - length (0 ∷ endsFrom 0 ls)) i) }
 
   step : (i : ℕ) → i < length ls → S (suc i) ≡ S i + length (getD ls i [])
@@ -119,17 +119,17 @@ module _ (ls : List (List Point)) where
       go true false p q = ne-eqb (number (startsOf ls) x) (getD (startsOf ls) l 0 + s) (apart (λ _ r. eqb-false (x .segment) s q r)) ∙ sym (rw (p, q))
       go false u p q = ne-eqb (number (startsOf ls) x) (getD (startsOf ls) l 0 + s) (apart (λ r _. eqb-false (x .line) l p r)) ∙ sym (rw p)
 
-  place-below : total (lengths ls) ≤ 1024 → (x : End) → Fitting ls x → number (startsOf ls) x < 1024
+  place-below : total (lengths ls) ≤ mostPoints → (x : End) → Fitting ls x → number (startsOf ls) x < mostPoints
   unfolding S
   place-below h x f = omega (arith, later (x .line) (suc (x .line)) (omega arith) (f .inside), f .short, starts-inside h .low (suc (x .line)))
 
-  pub segment-below : total (lengths ls) ≤ 1024 → (l s : ℕ) → l < length ls → s < length (getD ls l []) → getD (startsOf ls) l 0 + s < 1024
+  pub segment-below : total (lengths ls) ≤ mostPoints → (l s : ℕ) → l < length ls → s < length (getD ls l []) → getD (startsOf ls) l 0 + s < mostPoints
   unfolding S
   segment-below h l s hl hs = omega (arith, later l (suc l) (omega arith) hl, starts-inside h .low (suc l))
 
   -- ---- the ends of all links
 
-  module _ (few : length ls ≤ mostLines) (h : total (lengths ls) ≤ 1024) where
+  module _ (few : length ls ≤ mostLines) (h : total (lengths ls) ≤ mostPoints) where
     pub links-ok : (ks : List Link) → every (λ (l : Link). endFits ls (l .first) && endFits ls (l .second)) ks ≡ true → All (LinkOk ls) ks
     links-ok ks e = go ks (every-all (λ (l : Link). endFits ls (l .first) && endFits ls (l .second)) ks e)
       where
@@ -167,24 +167,3 @@ module _ (ls : List (List Point)) where
         go [] a g i l = absurd (omega arith)
         go (k ∷ ks) a g zero l = link-fits k (a .0 .0) (a .0 .1) (g .0)
         go (k ∷ ks) a g (suc i) l = go ks (a .1) (g .1) i (omega arith)
-
--- ---- points
-
-low-at : (f : Point → ℕ) (ps : List Point) (n i : ℕ) → All (λ (p : Point). f p ≤ 2 ^ 24) ps → getD (map f ps ++ replicate n 0) i 0 ≤ 2 ^ 24
-low-at f [] n i a = omega (arith, getD-same {A = ℕ} n i 0)
-low-at f (p ∷ ps) n zero a = a .0
-low-at f (p ∷ ps) n (suc i) a = low-at f ps n i (a .1)
-
-flat-all : (P : Point → Type 0) (ls : List (List Point)) → All (All P) ls → All P (flat ls)
-unfolding flat
-flat-all P [] a = tt
-flat-all P (l ∷ ls) a = all-append P l (flat ls) (a .0) (flat-all P ls (a .1))
-
-weaken : (ps : List Point) → All OnGrid ps → All (λ (p : Point). p .x ≤ 2 ^ 24) ps × All (λ (p : Point). p .y ≤ 2 ^ 24) ps
-weaken [] a = (tt, tt)
-weaken (p ∷ ps) a = let r = weaken ps (a .1) in ((omega (arith, a .0 .0), r .0), (omega (arith, a .0 .1), r .1))
-
-pub low-points : (ls : List (List Point)) → All (All OnGrid) ls → LowPoints (pointsOf ls)
-low-points ls a =
-    let t = weaken (flat ls) (flat-all OnGrid ls a) in
-    record { low = λ g. (low-at (λ (p : Point). p .x) (flat ls) (mostPoints - length (xsOf (flat ls))) g (t .0), low-at (λ (p : Point). p .y) (flat ls) (mostPoints - length (ysOf (flat ls))) g (t .1)) }

@@ -32,9 +32,6 @@ place-back p h =
     (sym (read-float (coordinate p) (record { place = p; low = h; is = refl }))
     ∙ ap readPlace (sym (write-is gridExponent p)) ∙ read-write p h)
 
-pub float-low : (x : Float) → OnFloat x → placeAt (placeOf x) ≤ 2 ^ 24
-float-low x o = omega (arith, ap (λ (y : Float). placeAt (placeOf y)) (o .is) ∙ place-back (o .place) (o .low), o .low)
-
 no-nan : (x : Float) (s : Bool) (a d : ℕ) → HasValue x s a d → T (not (isNan x))
 unfolding isNan
 no-nan nan s a d v = v

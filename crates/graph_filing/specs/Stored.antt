@@ -1,60 +1,52 @@
--- The ends of links filed by segment in flat lists, with their distances and places. Assumes nothing.
+-- The ends of links filed by segment in flat lists, with their places. Assumes nothing.
 use mathlib.Core.List.{List}
-use Prim.Native.Nat.{ℕ, zero, suc, _+_, _-_, _*_, _<_}
+use Prim.Native.Nat.{ℕ, zero, suc, _+_, _*_, _<_}
 use lib.ListN.{getD, set}
-use Rattle.limits.specs.Limits.{mostPoints}
+use Rattle.limits.specs.Limits.{mostLines, mostPoints}
 use Rattle.drawing_spec.specs.Drawing.{Point}
-use Rattle.graph_spec.specs.Chain.{squared}
 use Rattle.graph_segment_ends.specs.Ends.{Filed, filed, fileEnd}
 use Rattle.file_records.specs.declared.Point as records
 use Rattle.file_records.specs.declared.MstEdge.{MstEdge}
 use Rattle.file.specs.Held.{pastEnd}
 use Rattle.file.specs.Back.{pointBack}
-use Rattle.graph_chain.specs.Along.{Low}
-use Rattle.graph_line.specs.Lines.{Points, pointIn}
 use Rattle.graph_filing.specs.Floats.{OnFloat}
 
--- the newest end of each segment; of each end the next older one, its distance from the start of its segment, and its place
+-- the newest end of each segment; of each end the next older one and its place
 pub record Store : Type 0 where
   pub newest : List ℕ
   pub next : List ℕ
-  pub keys : List ℕ
   pub xs : List ℕ
   pub ys : List ℕ
 
-abbrev pub store : List ℕ → List ℕ → List ℕ → List ℕ → List ℕ → Store
-store hs ns ks xs ys = record { newest = hs; next = ns; keys = ks; xs = xs; ys = ys }
+abbrev pub store : List ℕ → List ℕ → List ℕ → List ℕ → Store
+store hs ns xs ys = record { newest = hs; next = ns; xs = xs; ys = ys }
 
-abbrev pub withFiled : Filed → List ℕ → List ℕ → List ℕ → Store
-withFiled t ks xs ys = store (t .heads) (t .next) ks xs ys
+abbrev pub withFiled : Filed → List ℕ → List ℕ → Store
+withFiled t xs ys = store (t .heads) (t .next) xs ys
 
 -- with the end e at p, of the segment g
-unfoldable pub storeEnd : Points → ℕ → ℕ → Point → Store → Store
-storeEnd ps e g p t = withFiled (fileEnd e g (filed (t .newest) (t .next))) (set (t .keys) e (squared (pointIn ps g) p)) (set (t .xs) e (p .x)) (set (t .ys) e (p .y))
+unfoldable pub storeEnd : ℕ → ℕ → Point → Store → Store
+storeEnd e g p t = withFiled (fileEnd e g (filed (t .newest) (t .next))) (set (t .xs) e (p .x)) (set (t .ys) e (p .y))
 
 -- the place of a segment's start among the points
 abbrev pub placeIn : List ℕ → ℕ → ℕ → ℕ
 placeIn starts line segment = getD starts line 0 + segment
 
 -- both ends of link i
-unfoldable pub storeLink : List ℕ → Points → ℕ → MstEdge → Store → Store
-storeLink starts ps i m t =
-    storeEnd ps (2 * i + 1) (placeIn starts (m .«poly_b») (m .«seg_b»)) (pointBack (m .«point_b»))
-    (storeEnd ps (2 * i) (placeIn starts (m .«poly_a») (m .«seg_a»)) (pointBack (m .«point_a»)) t)
+unfoldable pub storeLink : List ℕ → ℕ → MstEdge → Store → Store
+storeLink starts i m t =
+    storeEnd (2 * i + 1) (placeIn starts (m .«poly_b») (m .«seg_b»)) (pointBack (m .«point_b»))
+    (storeEnd (2 * i) (placeIn starts (m .«poly_a») (m .«seg_a»)) (pointBack (m .«point_a»)) t)
 
 -- n links, from link i on
-unfoldable pub storeLinks : List ℕ → Points → List MstEdge → ℕ → ℕ → Store → Store
-storeLinks starts ps ms zero i t = t
-storeLinks starts ps ms (suc n) i t = storeLinks starts ps ms n (i + 1) (storeLink starts ps i (getD ms i pastEnd) t)
+unfoldable pub storeLinks : List ℕ → List MstEdge → ℕ → ℕ → Store → Store
+storeLinks starts ms zero i t = t
+storeLinks starts ms (suc n) i t = storeLinks starts ms n (i + 1) (storeLink starts i (getD ms i pastEnd) t)
 
 -- ---- what the code needs of the lists
 
--- every point has a place that lengths can be made of
-pub record LowPoints (ps : Points) : Type 0 where
-  pub low : (g : ℕ) → Low (pointIn ps g)
-
 pub record EndFits (starts : List ℕ) (line segment : ℕ) : Type 0 where
-  pub line-low : line < 257
+  pub line-low : line < mostLines + 1
   pub place-low : placeIn starts line segment < mostPoints
 
 pub record LinkFits (starts : List ℕ) (m : MstEdge) : Type 0 where

@@ -3,8 +3,7 @@
 ghost use mathlib.Core.Path.{_≡_};
 ghost use Prim.Native.Nat.{_≤_};
 ghost use Rattle.limits.specs.Limits.{mostLinks};
-ghost use Rattle.graph_line.specs.Lines.{points};
-ghost use Rattle.graph_filing.specs.Stored.{store, storeLinks, LowPoints, LinksFit};
+ghost use Rattle.graph_filing.specs.Stored.{store, storeLinks, LinksFit};
 use file_records::MstEdge;
 use limits::MOST_LINES;
 use limits::MOST_LINKS;
@@ -15,27 +14,14 @@ use limits::MOST_SPLITS;
 pub fn file_held(
     newest: &mut [u16; MOST_POINTS],
     next: &mut [u16; MOST_SPLITS],
-    dists: &mut [u64; MOST_SPLITS],
     pxs: &mut [u32; MOST_SPLITS],
     pys: &mut [u32; MOST_SPLITS],
     starts: &[u16; MOST_LINES + 1],
-    lx: &[u32; MOST_POINTS],
-    ly: &[u32; MOST_POINTS],
     links: [MstEdge; MOST_LINKS],
     count: usize,
 )
-    requires { ⌜ (count ≤ mostLinks) × LinksFit (now starts) links count × LowPoints (points (now lx) (now ly)) ⌝ }
-    ensures { λ _. ⌜ store (now (newest .exit)) (now (next .exit)) (now (dists .exit)) (now (pxs .exit)) (now (pys .exit)) ≡ storeLinks (now (starts .entry)) (points (now (lx .entry)) (now (ly .entry))) links count 0 (store (now (newest .entry)) (now (next .entry)) (now (dists .entry)) (now (pxs .entry)) (now (pys .entry))) ⌝ }
+    requires { ⌜ (count ≤ mostLinks) × LinksFit (now starts) links count ⌝ }
+    ensures { λ _. ⌜ store (now (newest .exit)) (now (next .exit)) (now (pxs .exit)) (now (pys .exit)) ≡ storeLinks (now (starts .entry)) links count 0 (store (now (newest .entry)) (now (next .entry)) (now (pxs .entry)) (now (pys .entry))) ⌝ }
 {
-    graph_filing_lent::file_lent(
-        newest,
-        next,
-        dists,
-        pxs,
-        pys,
-        starts,
-        lx,
-        ly,
-        &links[..count],
-    );
+    graph_filing_lent::file_lent(newest, next, pxs, pys, starts, &links[..count]);
 }

@@ -4,8 +4,7 @@ ghost use mathlib.Core.Path.{_≡_};
 ghost use Prim.Native.Nat.{_≤_};
 ghost use lib.ListN.{length};
 ghost use Rattle.limits.specs.Limits.{mostLinks};
-ghost use Rattle.graph_line.specs.Lines.{points};
-ghost use Rattle.graph_filing.specs.Stored.{store, storeLinks, LowPoints, LinksFit};
+ghost use Rattle.graph_filing.specs.Stored.{store, storeLinks, LinksFit};
 use file_records::MstEdge;
 use limits::MOST_LINES;
 use limits::MOST_POINTS;
@@ -15,21 +14,18 @@ use limits::MOST_SPLITS;
 pub fn file_lent(
     newest: &mut [u16; MOST_POINTS],
     next: &mut [u16; MOST_SPLITS],
-    dists: &mut [u64; MOST_SPLITS],
     pxs: &mut [u32; MOST_SPLITS],
     pys: &mut [u32; MOST_SPLITS],
     starts: &[u16; MOST_LINES + 1],
-    lx: &[u32; MOST_POINTS],
-    ly: &[u32; MOST_POINTS],
     links: &[MstEdge],
 )
-    requires { ⌜ (length (now links) ≤ mostLinks) × LinksFit (now starts) (now links) (length (now links)) × LowPoints (points (now lx) (now ly)) ⌝ }
-    ensures { λ _. ⌜ store (now (newest .exit)) (now (next .exit)) (now (dists .exit)) (now (pxs .exit)) (now (pys .exit)) ≡ storeLinks (now (starts .entry)) (points (now (lx .entry)) (now (ly .entry))) (now (links .entry)) (length (now (links .entry))) 0 (store (now (newest .entry)) (now (next .entry)) (now (dists .entry)) (now (pxs .entry)) (now (pys .entry))) ⌝ }
+    requires { ⌜ (length (now links) ≤ mostLinks) × LinksFit (now starts) (now links) (length (now links)) ⌝ }
+    ensures { λ _. ⌜ store (now (newest .exit)) (now (next .exit)) (now (pxs .exit)) (now (pys .exit)) ≡ storeLinks (now (starts .entry)) (now (links .entry)) (length (now (links .entry))) 0 (store (now (newest .entry)) (now (next .entry)) (now (pxs .entry)) (now (pys .entry))) ⌝ }
 {
     let mut i = 0;
     while i < links.len() {
         let link = links[i];
-        graph_filing::file_link(newest, next, dists, pxs, pys, starts, lx, ly, i, link);
+        graph_filing::file_link(newest, next, pxs, pys, starts, i, link);
         i += 1;
     }
 }

@@ -7,79 +7,68 @@ use native.Mathlib.Decide.{decLe}
 use native.Mathlib.Omega.{arith}
 use lib.ListN.{length, getD, length-append}
 use lib.Seq.{getD-at}
-use lib.Dec.{leb}
 use borrow.Author.Tests.{lt-ltb, le-ltb}
+use Rattle.limits.specs.Limits.{mostSplits}
 use Rattle.drawing_spec.specs.Drawing.{Point}
 use Rattle.graph_spec.specs.Chain.{squared, insert, inner, changes}
 use Rattle.graph_splits.specs.Buffer.{Buffer, buffer, insertedSplit}
 use Rattle.graph_splits.proofs.Sorted.{Holds, holds-none, insert-holds}
 use Rattle.graph_splits.specs.Next.{at}
-use Rattle.graph_segment_ends.specs.Ends.{endRoom}
-use Rattle.graph_segment_ends.specs.Gather.{Gathered, gatheredAs, Keyed, gathered, pointOf, insertAll, KeyedFrom}
-use Rattle.graph_segment_ends.proofs.GatherLaws.{gather-none, gather-end, gather-step}
+use Rattle.graph_splits.specs.Points.{Points, pointIn}
+use Rattle.graph_segment_ends.specs.Gather.{Gathered, gatheredAs, gathered, insertAll}
+use Rattle.graph_segment_ends.proofs.GatherLaws.{insert-length, gather-none, gather-end, gather-step}
 use Rattle.file.specs.Back.{pointsBack}
 use Rattle.graph_moves.specs.Moves.{drawAll}
 use Rattle.graph_strokes.specs.Step.{Traced}
 use Rattle.graph_chain.specs.Along.{tracedAlong, Traceable}
 use Rattle.graph_chain.specs.Kept.{chainIn}
-use Rattle.graph_line.specs.Follow.{Distances, Scratch, chainFrom, follow, sortedFrom}
+use Rattle.graph_line.specs.Follow.{Scratch, chainFrom, follow, sortedFrom}
 
-pub follow-none : (fuel : ℕ) (ns : List ℕ) (e : ℕ) → endRoom ≤ e → follow fuel ns e ≡ []
+pub follow-none : (fuel : ℕ) (ns : List ℕ) (e : ℕ) → mostSplits ≤ e → follow fuel ns e ≡ []
 unfolding follow
 follow-none zero ns e h = refl
-follow-none (suc fuel) ns e h = ap (λ (t : Bool). elim t [ true ↦ e ∷ follow fuel ns (getD ns e 0) | false ↦ [] ]) (le-ltb e endRoom h)
+follow-none (suc fuel) ns e h = ap (λ (t : Bool). elim t [ true ↦ e ∷ follow fuel ns (getD ns e 0) | false ↦ [] ]) (le-ltb e mostSplits h)
 
-pub follow-one : (fuel : ℕ) (ns : List ℕ) (e : ℕ) → e < endRoom → follow (suc fuel) ns e ≡ e ∷ follow fuel ns (getD ns e 0)
+pub follow-one : (fuel : ℕ) (ns : List ℕ) (e : ℕ) → e < mostSplits → follow (suc fuel) ns e ≡ e ∷ follow fuel ns (getD ns e 0)
 unfolding follow
-follow-one fuel ns e h = ap (λ (t : Bool). elim t [ true ↦ e ∷ follow fuel ns (getD ns e 0) | false ↦ [] ]) (lt-ltb e endRoom h)
+follow-one fuel ns e h = ap (λ (t : Bool). elim t [ true ↦ e ∷ follow fuel ns (getD ns e 0) | false ↦ [] ]) (lt-ltb e mostSplits h)
 
 -- ---- what is gathered is what is followed
 
-insert-length : (a p : Point) (qs : List Point) → length (insert a p qs) ≡ suc (length qs)
-unfolding insert
-insert-length a p [] = refl
-insert-length a p (q ∷ qs) = go (leb (squared a p) (squared a q)) (insert-length a p qs)
-  where
-    go : (t : Bool) → length (insert a p qs) ≡ suc (length qs) → length {A = Point} (elim t [ true ↦ p ∷ q ∷ qs | false ↦ q ∷ insert a p qs ]) ≡ suc (suc (length qs))
-    go true h = refl
-    go false h = ap suc h
-
 -- the answer holds ps and the ends rs
-abbrev Sorted : Point → Keyed → Gathered → List ℕ → List Point → Type 0
-Sorted a k g rs ps = (g .count ≡ length (insertAll a (pointOf k) rs ps)) × Holds a (g .splits) (insertAll a (pointOf k) rs ps)
+abbrev Sorted : Point → Points → Gathered → List ℕ → List Point → Type 0
+Sorted a k g rs ps = (g .count ≡ length (insertAll a (pointIn k) rs ps)) × Holds a (g .splits) (insertAll a (pointIn k) rs ps)
 
-module _ (a : Point) (k : Keyed) (ns : List ℕ) where
-  gather-follow : (fuel e : ℕ) (ps : List Point) (b : Buffer) → length ps + fuel ≤ 511 → KeyedFrom a k (follow fuel ns e) → Holds a b ps
-      → Sorted a k (gathered fuel k ns e (length ps) b) (follow fuel ns e) ps
-  unfolding insertAll KeyedFrom follow
-  gather-follow zero e ps b f y H = subst (λ (g : Gathered). Sorted a k g (follow 0 ns e) ps) (sym (gather-end k ns 0 e (length ps) b refl)) none
+module _ (a : Point) (k : Points) (ns : List ℕ) where
+  gather-follow : (fuel e : ℕ) (ps : List Point) (b : Buffer) → length ps + fuel ≤ mostSplits → Holds a b ps
+      → Sorted a k (gathered a fuel k ns e (length ps) b) (follow fuel ns e) ps
+  unfolding insertAll follow
+  gather-follow zero e ps b f H = subst (λ (g : Gathered). Sorted a k g (follow 0 ns e) ps) (sym (gather-end a k ns 0 e (length ps) b refl)) none
     where
       none : Sorted a k (gatheredAs (length ps) b) (follow 0 ns e) ps
       none = (refl, H)
-  gather-follow (suc fuel) e ps b f y H = elim (decLe (suc e) endRoom) [ yes h ↦ some h (gather-follow fuel (getD ns e 0) (insert a (pointOf k e) ps)) | no h ↦ none (omega arith) ]
+  gather-follow (suc fuel) e ps b f H = elim (decLe (suc e) mostSplits) [ yes h ↦ some h (gather-follow fuel (getD ns e 0) (insert a (pointIn k e) ps)) | no h ↦ none (omega arith) ]
     where
-      none : endRoom ≤ e → Sorted a k (gathered (suc fuel) k ns e (length ps) b) (follow (suc fuel) ns e) ps
+      none : mostSplits ≤ e → Sorted a k (gathered a (suc fuel) k ns e (length ps) b) (follow (suc fuel) ns e) ps
       none h =
-          subst (λ (rs : List ℕ). Sorted a k (gathered (suc fuel) k ns e (length ps) b) rs ps) (sym (follow-none (suc fuel) ns e h))
-          (subst (λ (g : Gathered). Sorted a k g [] ps) (sym (gather-none k ns (suc fuel) e (length ps) b h)) (refl, H))
+          subst (λ (rs : List ℕ). Sorted a k (gathered a (suc fuel) k ns e (length ps) b) rs ps) (sym (follow-none (suc fuel) ns e h))
+          (subst (λ (g : Gathered). Sorted a k g [] ps) (sym (gather-none a k ns (suc fuel) e (length ps) b h)) (refl, H))
 
-      some : e < endRoom
-          → ((b' : Buffer) → length (insert a (pointOf k e) ps) + fuel ≤ 511 → KeyedFrom a k (follow fuel ns (getD ns e 0)) → Holds a b' (insert a (pointOf k e) ps)
-          → Sorted a k (gathered fuel k ns (getD ns e 0) (length (insert a (pointOf k e) ps)) b') (follow fuel ns (getD ns e 0)) (insert a (pointOf k e) ps))
-          → Sorted a k (gathered (suc fuel) k ns e (length ps) b) (follow (suc fuel) ns e) ps
+      some : e < mostSplits
+          → ((b' : Buffer) → length (insert a (pointIn k e) ps) + fuel ≤ mostSplits → Holds a b' (insert a (pointIn k e) ps)
+          → Sorted a k (gathered a fuel k ns (getD ns e 0) (length (insert a (pointIn k e) ps)) b') (follow fuel ns (getD ns e 0)) (insert a (pointIn k e) ps))
+          → Sorted a k (gathered a (suc fuel) k ns e (length ps) b) (follow (suc fuel) ns e) ps
       some h rest =
-          let y' : KeyedFrom a k (e ∷ follow fuel ns (getD ns e 0)) = subst (KeyedFrom a k) (follow-one fuel ns e h) y in
-          let more : length (insert a (pointOf k e) ps) ≡ suc (length ps) = insert-length a (pointOf k e) ps in
-          let one : length (insert a (pointOf k e) ps) ≡ length ps + 1 = omega arith in
+          let more : length (insert a (pointIn k e) ps) ≡ suc (length ps) = insert-length a (pointIn k e) ps in
+          let one : length (insert a (pointIn k e) ps) ≡ length ps + 1 = omega arith in
           let less : fuel ≡ suc fuel - 1 = omega arith in
-          let b' = insertedSplit (length ps) (getD (k .keys) e 0) (getD (k .xs) e 0) (getD (k .ys) e 0) b in
-          let H' : Holds a b' (insert a (pointOf k e) ps) =
-          subst (λ (d : ℕ). Holds a (insertedSplit (length ps) d (getD (k .xs) e 0) (getD (k .ys) e 0) b) (insert a (pointOf k e) ps)) (sym (y' .0)) (insert-holds a (pointOf k e) b ps H (omega arith)) in
-          subst (λ (rs : List ℕ). Sorted a k (gathered (suc fuel) k ns e (length ps) b) rs ps) (sym (follow-one fuel ns e h))
-          (subst (λ (g : Gathered). Sorted a k g (e ∷ follow fuel ns (getD ns e 0)) ps) (sym (gather-step k ns (suc fuel) e (length ps) b (omega arith) h))
-          (subst (λ (m : ℕ). Sorted a k (gathered m k ns (getD ns e 0) (length ps + 1) b') (follow fuel ns (getD ns e 0)) (insert a (pointOf k e) ps)) less
-          (subst (λ (m : ℕ). Sorted a k (gathered fuel k ns (getD ns e 0) m b') (follow fuel ns (getD ns e 0)) (insert a (pointOf k e) ps)) one
-          (rest b' (omega arith) (y' .1) H'))))
+          let b' = insertedSplit (length ps) (squared a (pointIn k e)) (getD (k .xs) e 0) (getD (k .ys) e 0) b in
+          let H' : Holds a b' (insert a (pointIn k e) ps) = insert-holds a (pointIn k e) b ps H (omega arith) in
+          subst (λ (rs : List ℕ). Sorted a k (gathered a (suc fuel) k ns e (length ps) b) rs ps) (sym (follow-one fuel ns e h))
+          (subst (λ (g : Gathered). Sorted a k g (e ∷ follow fuel ns (getD ns e 0)) ps) (sym (gather-step a k ns (suc fuel) e (length ps) b (omega arith) h))
+          (subst (λ (m : ℕ). Sorted a k (gathered a m k ns (getD ns e 0) (length ps + 1) b') (follow fuel ns (getD ns e 0)) (insert a (pointIn k e) ps)) less
+          (subst (λ (m : ℕ). Sorted a k (gathered a fuel k ns (getD ns e 0) m b') (follow fuel ns (getD ns e 0)) (insert a (pointIn k e) ps)) one
+          (rest b' (omega arith) H'))))
 
 -- ---- the buffer read back
 
@@ -109,11 +98,11 @@ holds-read a b ps H =
     ap (λ (l : List ℕ). pointsBack (length ps) 0 l (b .ys)) (H .xs .is) ∙ ap (pointsBack (length ps) 0 (map px ps ++ H .xs .rest)) (H .ys .is)
     ∙ points-read ps 0 [] [] (H .xs .rest) (H .ys .rest) refl refl
 
-module _ (a b : Point) (k : Keyed) (ns : List ℕ) (e n : ℕ) (ks xs ys ks' xs' ys' : List ℕ) (S : Scratch ks xs ys) (y : Distances a k ns e)
-    (g : gatheredAs n (buffer ks' xs' ys') ≡ gathered 510 k ns e 0 (buffer ks xs ys)) where
-  held : Sorted a k (gatheredAs n (buffer ks' xs' ys')) (follow endRoom ns e) []
-  held = subst (λ (z : Gathered). Sorted a k z (follow endRoom ns e) []) (sym g)
-      (gather-follow a k ns 510 e [] (buffer ks xs ys) (omega arith) (y .are) (holds-none a (buffer ks xs ys) (S .keys-long) (S .xs-long) (S .ys-long)))
+module _ (a b : Point) (k : Points) (ns : List ℕ) (e n : ℕ) (ks xs ys ks' xs' ys' : List ℕ) (S : Scratch ks xs ys)
+    (g : gatheredAs n (buffer ks' xs' ys') ≡ gathered a mostSplits k ns e 0 (buffer ks xs ys)) where
+  held : Sorted a k (gatheredAs n (buffer ks' xs' ys')) (follow mostSplits ns e) []
+  held = subst (λ (z : Gathered). Sorted a k z (follow mostSplits ns e) []) (sym g)
+      (gather-follow a k ns mostSplits e [] (buffer ks xs ys) (omega arith) (holds-none a (buffer ks xs ys) (S .keys-long) (S .xs-long) (S .ys-long)))
 
   gathered-chain : chainFrom k ns e a b ≡ chainIn xs' ys' n a b
   gathered-chain =

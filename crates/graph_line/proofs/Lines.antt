@@ -14,14 +14,12 @@ use Rattle.file.specs.Back.{pointsBack}
 use Rattle.graph_moves.specs.Moves.{Move, start, on, drawAll, lineMoves}
 use Rattle.graph_moves.proofs.Moves.{endOf}
 use Rattle.graph_moves.proofs.Built.{end-draw}
-use Rattle.graph_strokes.specs.Step.{Traced, begun}
+use Rattle.graph_splits.specs.Points.{Points, pointIn}
+use Rattle.graph_strokes.specs.Step.{NodeReady, Traced, begun}
 use Rattle.graph_chain.specs.Along.{tracedBy, tracedAlong, Traceable}
 use Rattle.graph_chain.proofs.Along.{traced-append, traceable-next, traceable-front, traceable-back, begin-ready}
-use Rattle.graph_line.specs.Follow.{chainFrom, sortedFrom, Distances}
-use Rattle.graph_line.specs.Lines.{AllDistances, Filing, Points, Ready, chainsOf, lineIn, origin, pointIn, segmentsFrom}
-
-pub distances-at : (f : Filing) (ps : Points) → AllDistances f ps → (g : ℕ) → g < 1024 → (e : ℕ) → e ≡ getD (f .newest) g 0 → Distances (pointIn ps g) (f .keyed) (f .next) e
-distances-at f ps d g h e is = subst (Distances (pointIn ps g) (f .keyed) (f .next)) (sym is) (d .from g h)
+use Rattle.graph_line.specs.Follow.{chainFrom, sortedFrom}
+use Rattle.graph_line.specs.Lines.{Filing, Ready, chainsOf, lineIn, origin, segmentsFrom}
 
 line-some : (f : Filing) (ps : Points) (first stop : ℕ) → first < stop → lineIn f ps first stop ≡ start (pointIn ps first) ∷ segmentsFrom f ps stop first
 unfolding lineIn
@@ -55,8 +53,8 @@ line-anew f ps first stop = go (ltb first stop)
     go true = tt
     go false = tt
 
-pub ready-count : (ms : List Move) (s : Traced) → Ready ms s → s .nodeCount ≤ 1534
-ready-count ms s r = begin-ready (r .place) ms s (r .traceable)
+pub ready-first : (f : Filing) (ps : Points) (first stop : ℕ) (s : Traced) → first < stop → Ready (lineIn f ps first stop) s → NodeReady (pointIn ps first) (s .nodeCount) (s .table)
+ready-first f ps first stop s h r = begin-ready (r .place) (pointIn ps first) (segmentsFrom f ps stop first) s (subst (λ (ms : List Move). Traceable (r .place) ms s) (line-some f ps first stop h) (r .traceable))
 
 pub ready-front : (ms ks : List Move) (s : Traced) → Ready (ms ++ ks) s → Ready ms s
 ready-front ms ks s r = record { place = r .place; traceable = traceable-front (r .place) ms ks s (r .traceable) }
@@ -94,7 +92,7 @@ module _ (f : Filing) (ps : Points) (stop : ℕ) where
       ap (λ (n : ℕ). lineMoves (chainsOf f) g (pointIn ps g) (pointsBack n (g + 1) (ps .xs) (ps .ys))) none
 
   chain-ends : (g : ℕ) (a b : Point) → endOf a (drawAll (chainsOf f g a b)) ≡ b
-  chain-ends g a b = end-draw a (changes a (inner a b (sortedFrom (f .keyed) (f .next) (getD (f .newest) g 0) a))) b
+  chain-ends g a b = end-draw a (changes a (inner a b (sortedFrom (f .ends) (f .next) (getD (f .newest) g 0) a))) b
 
   pub line-empty : (first : ℕ) (s : Traced) → stop ≤ first → s ≡ tracedAlong origin (lineIn f ps first stop) s
   unfolding tracedAlong
@@ -121,16 +119,16 @@ module _ (f : Filing) (ps : Points) (stop : ℕ) where
   module _ (g : ℕ) (s r : Traced) (o : OnLine f ps stop g s r) where
     -- the segment from here, whose newest end is e
     module _ (h : g + 1 < stop) (e : ℕ) (is : e ≡ getD (f .newest) g 0) where
-      own-is : drawAll (chainsOf f g (pointIn ps g) (pointIn ps (g + 1))) ≡ drawAll (chainFrom (f .keyed) (f .next) e (pointIn ps g) (pointIn ps (g + 1)))
-      own-is = ap (λ (k : ℕ). drawAll (chainFrom (f .keyed) (f .next) k (pointIn ps g) (pointIn ps (g + 1)))) (sym is)
+      own-is : drawAll (chainsOf f g (pointIn ps g) (pointIn ps (g + 1))) ≡ drawAll (chainFrom (f .ends) (f .next) e (pointIn ps g) (pointIn ps (g + 1)))
+      own-is = ap (λ (k : ℕ). drawAll (chainFrom (f .ends) (f .next) k (pointIn ps g) (pointIn ps (g + 1)))) (sym is)
 
-      pub next-ready : Traceable (pointIn ps g) (drawAll (chainFrom (f .keyed) (f .next) e (pointIn ps g) (pointIn ps (g + 1)))) s
+      pub next-ready : Traceable (pointIn ps g) (drawAll (chainFrom (f .ends) (f .next) e (pointIn ps g) (pointIn ps (g + 1)))) s
       next-ready =
           subst (λ (ms : List Move). Traceable (pointIn ps g) ms s) own-is
           (traceable-front (pointIn ps g) (drawAll (chainsOf f g (pointIn ps g) (pointIn ps (g + 1)))) (segmentsFrom f ps stop (g + 1)) s
           (subst (λ (ms : List Move). Traceable (pointIn ps g) ms s) (segments-one g h) (o .traceable)))
 
-      pub next-drawn : (s' : Traced) → s' ≡ tracedAlong (pointIn ps g) (drawAll (chainFrom (f .keyed) (f .next) e (pointIn ps g) (pointIn ps (g + 1)))) s → OnLine f ps stop (g + 1) s' r
+      pub next-drawn : (s' : Traced) → s' ≡ tracedAlong (pointIn ps g) (drawAll (chainFrom (f .ends) (f .next) e (pointIn ps g) (pointIn ps (g + 1)))) s → OnLine f ps stop (g + 1) s' r
       next-drawn s' d =
           let a = pointIn ps g in
           let b = pointIn ps (g + 1) in

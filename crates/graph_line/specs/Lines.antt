@@ -1,46 +1,30 @@
 -- The moves of lines whose points stand in flat lists, a segment after the other. Assumes nothing.
 use mathlib.Core.Bool.{true, false}
 use mathlib.Core.List.{List, [], _∷_}
-use Prim.Native.Nat.{ℕ, _+_, _-_, _<_}
+use Prim.Native.Nat.{ℕ, _+_, _-_}
 use lib.ListN.{getD}
 use lib.Dec.{ltb}
-use Rattle.limits.specs.Limits.{mostPoints}
 use Rattle.drawing_spec.specs.Drawing.{Point}
 use Rattle.graph_splits.specs.Next.{at}
-use Rattle.graph_segment_ends.specs.Gather.{Keyed}
+use Rattle.graph_splits.specs.Points.{Points, pointIn}
 use Rattle.file.specs.Back.{pointsBack}
 use Rattle.graph_moves.specs.Moves.{Move, start, lineMoves}
 use Rattle.graph_strokes.specs.Step.{Traced}
 use Rattle.graph_chain.specs.Along.{Traceable}
-use Rattle.graph_line.specs.Follow.{chainFrom, Distances}
+use Rattle.graph_line.specs.Follow.{chainFrom}
 
--- the ends of links, filed by segment: of each its distance and its place, the next older one, and the newest of each segment
+-- the ends of links, filed by segment: of each its place, the next older one, and the newest of each segment
 pub record Filing : Type 0 where
-  pub keyed : Keyed
+  pub ends : Points
   pub next : List ℕ
   pub newest : List ℕ
 
-abbrev pub filing : Keyed → List ℕ → List ℕ → Filing
-filing k ns hs = record { keyed = k; next = ns; newest = hs }
+abbrev pub filing : Points → List ℕ → List ℕ → Filing
+filing k ns hs = record { ends = k; next = ns; newest = hs }
 
 -- the chain of the segment at place g
 abbrev pub chainsOf : Filing → ℕ → Point → Point → List Point
-chainsOf f g a b = chainFrom (f .keyed) (f .next) (getD (f .newest) g 0) a b
-
--- the points of all lines, by their places
-pub record Points : Type 0 where
-  pub xs : List ℕ
-  pub ys : List ℕ
-
-abbrev pub points : List ℕ → List ℕ → Points
-points xs ys = record { xs = xs; ys = ys }
-
-abbrev pub pointIn : Points → ℕ → Point
-pointIn ps g = at (getD (ps .xs) g 0) (getD (ps .ys) g 0)
-
--- each end has its distance from the start of its segment
-pub record AllDistances (f : Filing) (ps : Points) : Type 0 where
-  pub from : (g : ℕ) → g < mostPoints → Distances (pointIn ps g) (f .keyed) (f .next) (getD (f .newest) g 0)
+chainsOf f g a b = chainFrom (f .ends) (f .next) (getD (f .newest) g 0) a b
 
 -- the moves of a line from its point g on, whose points end before `stop`
 abbrev pub segmentsFrom : Filing → Points → ℕ → ℕ → List Move

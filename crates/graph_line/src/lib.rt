@@ -1,19 +1,17 @@
-// Lines traced, segment by segment.
+// A line traced, segment by segment.
 ghost use mathlib.Core.Path.{_≡_};
 ghost use Prim.Native.Nat.{_≤_};
 ghost use Rattle.limits.specs.Limits.{mostPoints};
-ghost use Rattle.graph_adjacency.specs.Lists.{adjacency};
-ghost use Rattle.graph_nodes.specs.Table.{table};
 ghost use Rattle.graph_splits.specs.Next.{at};
-ghost use Rattle.graph_segment_ends.specs.Gather.{keyed};
+ghost use Rattle.graph_splits.specs.Points.{points, LowPoints};
 ghost use Rattle.graph_moves.specs.Moves.{drawAll};
-ghost use Rattle.graph_strokes.specs.Step.{traced};
+ghost use Rattle.graph_strokes.specs.Step.{tracedIn};
 ghost use Rattle.graph_chain.specs.Along.{tracedAlong, Traceable};
-ghost use Rattle.graph_line.specs.Follow.{chainFrom, Scratch, Distances};
-ghost use Rattle.graph_line.specs.Lines.{filing, points, AllDistances, lineIn, origin, Ready};
+ghost use Rattle.graph_line.specs.Follow.{chainFrom, Scratch};
+ghost use Rattle.graph_line.specs.Lines.{filing, lineIn, origin, Ready};
 use graph_nodes::BUCKETS;
-use graph_splits::ROOM;
 use graph_strokes::Trail;
+use limits::ARC_ROOM;
 use limits::EDGE_ROOM;
 use limits::MOST_NODES;
 use limits::MOST_POINTS;
@@ -26,14 +24,13 @@ pub fn trace_segment(
     ys: &mut [u32; MOST_NODES],
     older: &mut [u16; MOST_NODES],
     buckets: &mut [u16; BUCKETS],
-    ends: &mut [u16; 2 * EDGE_ROOM],
+    ends: &mut [u16; ARC_ROOM],
     weights: &mut [f64; EDGE_ROOM],
-    next: &mut [u16; 2 * EDGE_ROOM],
+    next: &mut [u16; ARC_ROOM],
     heads: &mut [u16; 2 * MOST_NODES],
-    keys: &mut [u64; ROOM],
-    sx: &mut [u32; ROOM],
-    sy: &mut [u32; ROOM],
-    dists: &[u64; MOST_SPLITS],
+    keys: &mut [u64; MOST_SPLITS],
+    sx: &mut [u32; MOST_SPLITS],
+    sy: &mut [u32; MOST_SPLITS],
     pxs: &[u32; MOST_SPLITS],
     pys: &[u32; MOST_SPLITS],
     filed: &[u16; MOST_SPLITS],
@@ -45,12 +42,12 @@ pub fn trace_segment(
     by: u32,
 ) -> Trail
     requires scratch { ⌜ Scratch (now keys) (now sx) (now sy) ⌝ }
-    requires distances { ⌜ Distances (at ax ay) (keyed (now dists) (now pxs) (now pys)) (now filed) first ⌝ }
-    requires room { ⌜ Traceable (at ax ay) (drawAll (chainFrom (keyed (now dists) (now pxs) (now pys)) (now filed) first (at ax ay) (at bx by))) (traced (table (now xs) (now ys) (now older) (now buckets)) (adjacency (now ends) (now weights) (now next) (now heads)) (from .nodes) (from .edges) (from .node)) ⌝ }
-    ensures graph { λ r. ⌜ traced (table (now (xs .exit)) (now (ys .exit)) (now (older .exit)) (now (buckets .exit))) (adjacency (now (ends .exit)) (now (weights .exit)) (now (next .exit)) (now (heads .exit))) (r .nodes) (r .edges) (r .node) ≡ tracedAlong (at ax ay) (drawAll (chainFrom (keyed (now (dists .entry)) (now (pxs .entry)) (now (pys .entry))) (now (filed .entry)) first (at ax ay) (at bx by))) (traced (table (now (xs .entry)) (now (ys .entry)) (now (older .entry)) (now (buckets .entry))) (adjacency (now (ends .entry)) (now (weights .entry)) (now (next .entry)) (now (heads .entry))) (from .nodes) (from .edges) (from .node)) ⌝ }
+    requires low { ⌜ LowPoints (points (now pxs) (now pys)) ⌝ }
+    requires room { ⌜ Traceable (at ax ay) (drawAll (chainFrom (points (now pxs) (now pys)) (now filed) first (at ax ay) (at bx by))) (tracedIn (now xs) (now ys) (now older) (now buckets) (now ends) (now weights) (now next) (now heads) from) ⌝ }
+    ensures graph { λ r. ⌜ tracedIn (now (xs .exit)) (now (ys .exit)) (now (older .exit)) (now (buckets .exit)) (now (ends .exit)) (now (weights .exit)) (now (next .exit)) (now (heads .exit)) r ≡ tracedAlong (at ax ay) (drawAll (chainFrom (points (now (pxs .entry)) (now (pys .entry))) (now (filed .entry)) first (at ax ay) (at bx by))) (tracedIn (now (xs .entry)) (now (ys .entry)) (now (older .entry)) (now (buckets .entry)) (now (ends .entry)) (now (weights .entry)) (now (next .entry)) (now (heads .entry)) from) ⌝ }
     ensures scratch { λ _. ⌜ Scratch (now (keys .exit)) (now (sx .exit)) (now (sy .exit)) ⌝ }
 {
-    let count = graph_segment_ends::gather(dists, pxs, pys, filed, first, keys, sx, sy);
+    let count = graph_segment_ends::gather(pxs, pys, filed, first, ax, ay, keys, sx, sy);
     graph_chain::trace_chain(
         xs,
         ys,
@@ -77,14 +74,13 @@ pub fn trace_line(
     ys: &mut [u32; MOST_NODES],
     older: &mut [u16; MOST_NODES],
     buckets: &mut [u16; BUCKETS],
-    ends: &mut [u16; 2 * EDGE_ROOM],
+    ends: &mut [u16; ARC_ROOM],
     weights: &mut [f64; EDGE_ROOM],
-    next: &mut [u16; 2 * EDGE_ROOM],
+    next: &mut [u16; ARC_ROOM],
     heads: &mut [u16; 2 * MOST_NODES],
-    keys: &mut [u64; ROOM],
-    sx: &mut [u32; ROOM],
-    sy: &mut [u32; ROOM],
-    dists: &[u64; MOST_SPLITS],
+    keys: &mut [u64; MOST_SPLITS],
+    sx: &mut [u32; MOST_SPLITS],
+    sy: &mut [u32; MOST_SPLITS],
     pxs: &[u32; MOST_SPLITS],
     pys: &[u32; MOST_SPLITS],
     filed: &[u16; MOST_SPLITS],
@@ -97,9 +93,9 @@ pub fn trace_line(
 ) -> Trail
     requires inside { ⌜ stop ≤ mostPoints ⌝ }
     requires scratch { ⌜ Scratch (now keys) (now sx) (now sy) ⌝ }
-    requires distances { ⌜ AllDistances (filing (keyed (now dists) (now pxs) (now pys)) (now filed) (now newest)) (points (now lx) (now ly)) ⌝ }
-    requires room { ⌜ Ready (lineIn (filing (keyed (now dists) (now pxs) (now pys)) (now filed) (now newest)) (points (now lx) (now ly)) first stop) (traced (table (now xs) (now ys) (now older) (now buckets)) (adjacency (now ends) (now weights) (now next) (now heads)) (from .nodes) (from .edges) (from .node)) ⌝ }
-    ensures graph { λ r. ⌜ traced (table (now (xs .exit)) (now (ys .exit)) (now (older .exit)) (now (buckets .exit))) (adjacency (now (ends .exit)) (now (weights .exit)) (now (next .exit)) (now (heads .exit))) (r .nodes) (r .edges) (r .node) ≡ tracedAlong origin (lineIn (filing (keyed (now (dists .entry)) (now (pxs .entry)) (now (pys .entry))) (now (filed .entry)) (now (newest .entry))) (points (now (lx .entry)) (now (ly .entry))) first stop) (traced (table (now (xs .entry)) (now (ys .entry)) (now (older .entry)) (now (buckets .entry))) (adjacency (now (ends .entry)) (now (weights .entry)) (now (next .entry)) (now (heads .entry))) (from .nodes) (from .edges) (from .node)) ⌝ }
+    requires low { ⌜ LowPoints (points (now pxs) (now pys)) ⌝ }
+    requires room { ⌜ Ready (lineIn (filing (points (now pxs) (now pys)) (now filed) (now newest)) (points (now lx) (now ly)) first stop) (tracedIn (now xs) (now ys) (now older) (now buckets) (now ends) (now weights) (now next) (now heads) from) ⌝ }
+    ensures graph { λ r. ⌜ tracedIn (now (xs .exit)) (now (ys .exit)) (now (older .exit)) (now (buckets .exit)) (now (ends .exit)) (now (weights .exit)) (now (next .exit)) (now (heads .exit)) r ≡ tracedAlong origin (lineIn (filing (points (now (pxs .entry)) (now (pys .entry))) (now (filed .entry)) (now (newest .entry))) (points (now (lx .entry)) (now (ly .entry))) first stop) (tracedIn (now (xs .entry)) (now (ys .entry)) (now (older .entry)) (now (buckets .entry)) (now (ends .entry)) (now (weights .entry)) (now (next .entry)) (now (heads .entry)) from) ⌝ }
     ensures scratch { λ _. ⌜ Scratch (now (keys .exit)) (now (sx .exit)) (now (sy .exit)) ⌝ }
 {
     if stop <= first {
@@ -108,7 +104,7 @@ pub fn trace_line(
     let last = stop - 1;
     let qx = lx[first];
     let qy = ly[first];
-    let mut t = graph_strokes::begin(xs, ys, older, buckets, from.nodes, from.edges, qx, qy);
+    let mut t = graph_strokes::begin(xs, ys, older, buckets, from, qx, qy);
     let mut g = first;
     while g < last {
         let e = widen::wide(newest[g]);
@@ -128,7 +124,6 @@ pub fn trace_line(
             keys,
             sx,
             sy,
-            dists,
             pxs,
             pys,
             filed,

@@ -4,16 +4,17 @@ use mathlib.Core.List.{List, _∷_, _++_}
 use Prim.Native.Nat.{ℕ, zero, suc, _+_, _-_, _*_, _≤_, _<_}
 use native.Mathlib.Omega.{arith}
 use lib.ListN.{getD}
-use Rattle.graph_segment_ends.specs.Gather.{Keyed, pointOf}
+use Rattle.limits.specs.Limits.{mostPoints}
+use Rattle.graph_splits.specs.Points.{Points, pointIn}
 use Rattle.graph_moves.specs.Moves.{Move, start, on}
-use Rattle.graph_strokes.specs.Step.{Traced, begun, stepped}
+use Rattle.graph_strokes.specs.Step.{NodeReady, StepReady, Traced, begun, stepped}
 use Rattle.graph_chain.specs.Along.{tracedBy, tracedAlong, Traceable}
-use Rattle.graph_chain.proofs.Along.{traceable-next, StepReady, step-ready}
-use Rattle.graph_line.specs.Lines.{Filing, Points, lineIn, origin, Ready}
-use Rattle.graph_line.proofs.Lines.{Anew, anew-any, anew-append, line-anew, ready-count, ready-front, ready-back, anew-back}
+use Rattle.graph_chain.proofs.Along.{traceable-next, step-ready, begin-ready}
+use Rattle.graph_line.specs.Lines.{Filing, lineIn, origin, Ready}
+use Rattle.graph_line.proofs.Lines.{Anew, anew-any, anew-append, line-anew, ready-front, ready-back, anew-back}
 use Rattle.graph_lines.specs.All.{StartsInside, linesIn, linksIn}
 
-pub start-low : (starts : List ℕ) → StartsInside starts → (i k : ℕ) → k ≡ getD starts i 0 → k ≤ 1024
+pub start-low : (starts : List ℕ) → StartsInside starts → (i k : ℕ) → k ≡ getD starts i 0 → k ≤ mostPoints
 start-low starts h i k e = omega (arith, h .low i)
 
 module _ (f : Filing) (ps : Points) (starts : List ℕ) where
@@ -61,50 +62,53 @@ module _ (f : Filing) (ps : Points) (starts : List ℕ) (n : ℕ) where
         let none : n - i ≡ 0 = omega arith in
         sym (ap (λ (m : ℕ). tracedAlong origin (linesIn f ps starts m i) s) none) ∙ o .answer
 
-pub links-anew : (f : Keyed) (n k : ℕ) → Anew (linksIn f n k)
+pub links-anew : (f : Points) (n k : ℕ) → Anew (linksIn f n k)
 unfolding linksIn
 links-anew f zero k = tt
 links-anew f (suc n) k = tt
 
-pub record OnLinks (f : Keyed) (n k : ℕ) (s r : Traced) : Type 0 where
+pub record OnLinks (f : Points) (n k : ℕ) (s r : Traced) : Type 0 where
   pub ready : Ready (linksIn f (n - k) k) s
   pub answer : tracedAlong origin (linksIn f (n - k) k) s ≡ r
 
-module _ (f : Keyed) (n : ℕ) where
+module _ (f : Points) (n : ℕ) where
   pub links-begin : (s : Traced) → Ready (linksIn f n 0) s → OnLinks f n 0 s (tracedAlong origin (linksIn f n 0) s)
   links-begin s r =
       let none : n ≡ n - 0 = omega arith in
       record { ready = subst (λ (m : ℕ). Ready (linksIn f m 0) s) none r; answer = sym (ap (λ (m : ℕ). tracedAlong origin (linksIn f m 0) s) none) }
 
   module _ (k : ℕ) (s r : Traced) (o : OnLinks f n k s r) where
-    pub link-count : s .nodeCount ≤ 1534
-    link-count = ready-count (linksIn f (n - k) k) s (o .ready)
-
-    module _ (h : k < n) (s₁ : Traced) (e₁ : s₁ ≡ begun (pointOf f (2 * k)) s) where
-      link-one : linksIn f (n - k) k ≡ start (pointOf f (2 * k)) ∷ on (pointOf f (2 * k + 1)) ∷ linksIn f (n - (k + 1)) (k + 1)
+    module _ (h : k < n) where
+      link-one : linksIn f (n - k) k ≡ start (pointIn f (2 * k)) ∷ on (pointIn f (2 * k + 1)) ∷ linksIn f (n - (k + 1)) (k + 1)
       unfolding linksIn
       link-one = let more : n - k ≡ suc (n - (k + 1)) = omega arith in ap (λ (m : ℕ). linksIn f m k) more
 
-      first-done : Traceable (pointOf f (2 * k)) (on (pointOf f (2 * k + 1)) ∷ linksIn f (n - (k + 1)) (k + 1)) s₁
+      pub first-ready : NodeReady (pointIn f (2 * k)) (s .nodeCount) (s .table)
+      first-ready =
+          begin-ready (o .ready .place) (pointIn f (2 * k)) (on (pointIn f (2 * k + 1)) ∷ linksIn f (n - (k + 1)) (k + 1)) s
+          (subst (λ (ms : List Move). Traceable (o .ready .place) ms s) link-one (o .ready .traceable))
+
+    module _ (h : k < n) (s₁ : Traced) (e₁ : s₁ ≡ begun (pointIn f (2 * k)) s) where
+      first-done : Traceable (pointIn f (2 * k)) (on (pointIn f (2 * k + 1)) ∷ linksIn f (n - (k + 1)) (k + 1)) s₁
       unfolding tracedBy
       first-done =
-          subst (Traceable (pointOf f (2 * k)) (on (pointOf f (2 * k + 1)) ∷ linksIn f (n - (k + 1)) (k + 1))) (sym e₁)
-          (traceable-next (o .ready .place) (start (pointOf f (2 * k))) (on (pointOf f (2 * k + 1)) ∷ linksIn f (n - (k + 1)) (k + 1)) s
-          (subst (λ (ms : List Move). Traceable (o .ready .place) ms s) link-one (o .ready .traceable)))
+          subst (Traceable (pointIn f (2 * k)) (on (pointIn f (2 * k + 1)) ∷ linksIn f (n - (k + 1)) (k + 1))) (sym e₁)
+          (traceable-next (o .ready .place) (start (pointIn f (2 * k))) (on (pointIn f (2 * k + 1)) ∷ linksIn f (n - (k + 1)) (k + 1)) s
+          (subst (λ (ms : List Move). Traceable (o .ready .place) ms s) (link-one h) (o .ready .traceable)))
 
-      pub second-ready : StepReady (pointOf f (2 * k)) (pointOf f (2 * k + 1)) s₁
-      second-ready = step-ready (pointOf f (2 * k)) (pointOf f (2 * k + 1)) (linksIn f (n - (k + 1)) (k + 1)) s₁ first-done
+      pub second-ready : StepReady (pointIn f (2 * k)) (pointIn f (2 * k + 1)) s₁
+      second-ready = step-ready (pointIn f (2 * k)) (pointIn f (2 * k + 1)) (linksIn f (n - (k + 1)) (k + 1)) s₁ first-done
 
-      pub link-drawn : (s₂ : Traced) → s₂ ≡ stepped (pointOf f (2 * k)) (pointOf f (2 * k + 1)) s₁ → OnLinks f n (k + 1) s₂ r
+      pub link-drawn : (s₂ : Traced) → s₂ ≡ stepped (pointIn f (2 * k)) (pointIn f (2 * k + 1)) s₁ → OnLinks f n (k + 1) s₂ r
       unfolding tracedAlong tracedBy
       link-drawn s₂ e₂ =
-          let a = pointOf f (2 * k) in
-          let b = pointOf f (2 * k + 1) in
+          let a = pointIn f (2 * k) in
+          let b = pointIn f (2 * k + 1) in
           let ms = linksIn f (n - (k + 1)) (k + 1) in
           record {
             ready = record { place = b; traceable = subst (Traceable b ms) (sym e₂) (traceable-next a (on b) ms s₁ first-done) };
             answer = anew-any origin b ms s₂ (links-anew f (n - (k + 1)) (k + 1)) ∙ ap (tracedAlong b ms) (e₂ ∙ ap (stepped a b) e₁)
-                ∙ sym (ap (λ (ks : List Move). tracedAlong origin ks s) link-one) ∙ o .answer;
+                ∙ sym (ap (λ (ks : List Move). tracedAlong origin ks s) (link-one h)) ∙ o .answer;
           }
 
     pub links-end : n ≤ k → s ≡ r

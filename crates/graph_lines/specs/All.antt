@@ -3,9 +3,9 @@ use mathlib.Core.List.{List, [], _∷_, _++_}
 use Prim.Native.Nat.{ℕ, zero, suc, _+_, _*_, _≤_}
 use lib.ListN.{getD}
 use Rattle.limits.specs.Limits.{mostPoints}
-use Rattle.graph_segment_ends.specs.Gather.{Keyed, pointOf}
+use Rattle.graph_splits.specs.Points.{Points, pointIn}
 use Rattle.graph_moves.specs.Moves.{Move, start, on}
-use Rattle.graph_line.specs.Lines.{Filing, Points, lineIn}
+use Rattle.graph_line.specs.Lines.{Filing, lineIn}
 
 -- ---- lines
 
@@ -21,6 +21,6 @@ pub record StartsInside (starts : List ℕ) : Type 0 where
 -- ---- links
 
 -- n links, from link k on; the ends of link k are those numbered 2 k and 2 k + 1
-unfoldable pub linksIn : Keyed → ℕ → ℕ → List Move
+unfoldable pub linksIn : Points → ℕ → ℕ → List Move
 linksIn f zero k = []
-linksIn f (suc n) k = start (pointOf f (2 * k)) ∷ on (pointOf f (2 * k + 1)) ∷ linksIn f n (k + 1)
+linksIn f (suc n) k = start (pointIn f (2 * k)) ∷ on (pointIn f (2 * k + 1)) ∷ linksIn f n (k + 1)

@@ -2,17 +2,15 @@
 ghost use mathlib.Core.Path.{_≡_};
 ghost use Prim.Native.Nat.{_≤_};
 ghost use Rattle.limits.specs.Limits.{mostLinks, mostLines};
-ghost use Rattle.graph_adjacency.specs.Lists.{adjacency};
-ghost use Rattle.graph_nodes.specs.Table.{table};
-ghost use Rattle.graph_segment_ends.specs.Gather.{keyed};
-ghost use Rattle.graph_strokes.specs.Step.{traced};
+ghost use Rattle.graph_splits.specs.Points.{points, LowPoints};
+ghost use Rattle.graph_strokes.specs.Step.{tracedIn};
 ghost use Rattle.graph_chain.specs.Along.{tracedAlong};
 ghost use Rattle.graph_line.specs.Follow.{Scratch};
-ghost use Rattle.graph_line.specs.Lines.{filing, points, AllDistances, origin, Ready};
+ghost use Rattle.graph_line.specs.Lines.{filing, origin, Ready};
 ghost use Rattle.graph_lines.specs.All.{linesIn, linksIn, StartsInside};
 use graph_nodes::BUCKETS;
-use graph_splits::ROOM;
 use graph_strokes::Trail;
+use limits::ARC_ROOM;
 use limits::EDGE_ROOM;
 use limits::MOST_LINES;
 use limits::MOST_NODES;
@@ -25,14 +23,13 @@ pub fn trace_lines(
     ys: &mut [u32; MOST_NODES],
     older: &mut [u16; MOST_NODES],
     buckets: &mut [u16; BUCKETS],
-    ends: &mut [u16; 2 * EDGE_ROOM],
+    ends: &mut [u16; ARC_ROOM],
     weights: &mut [f64; EDGE_ROOM],
-    next: &mut [u16; 2 * EDGE_ROOM],
+    next: &mut [u16; ARC_ROOM],
     heads: &mut [u16; 2 * MOST_NODES],
-    keys: &mut [u64; ROOM],
-    sx: &mut [u32; ROOM],
-    sy: &mut [u32; ROOM],
-    dists: &[u64; MOST_SPLITS],
+    keys: &mut [u64; MOST_SPLITS],
+    sx: &mut [u32; MOST_SPLITS],
+    sy: &mut [u32; MOST_SPLITS],
     pxs: &[u32; MOST_SPLITS],
     pys: &[u32; MOST_SPLITS],
     filed: &[u16; MOST_SPLITS],
@@ -46,9 +43,9 @@ pub fn trace_lines(
     requires few { ⌜ lines ≤ mostLines ⌝ }
     requires inside { ⌜ StartsInside (now starts) ⌝ }
     requires scratch { ⌜ Scratch (now keys) (now sx) (now sy) ⌝ }
-    requires distances { ⌜ AllDistances (filing (keyed (now dists) (now pxs) (now pys)) (now filed) (now newest)) (points (now lx) (now ly)) ⌝ }
-    requires room { ⌜ Ready (linesIn (filing (keyed (now dists) (now pxs) (now pys)) (now filed) (now newest)) (points (now lx) (now ly)) (now starts) lines 0) (traced (table (now xs) (now ys) (now older) (now buckets)) (adjacency (now ends) (now weights) (now next) (now heads)) (from .nodes) (from .edges) (from .node)) ⌝ }
-    ensures { λ r. ⌜ traced (table (now (xs .exit)) (now (ys .exit)) (now (older .exit)) (now (buckets .exit))) (adjacency (now (ends .exit)) (now (weights .exit)) (now (next .exit)) (now (heads .exit))) (r .nodes) (r .edges) (r .node) ≡ tracedAlong origin (linesIn (filing (keyed (now (dists .entry)) (now (pxs .entry)) (now (pys .entry))) (now (filed .entry)) (now (newest .entry))) (points (now (lx .entry)) (now (ly .entry))) (now (starts .entry)) lines 0) (traced (table (now (xs .entry)) (now (ys .entry)) (now (older .entry)) (now (buckets .entry))) (adjacency (now (ends .entry)) (now (weights .entry)) (now (next .entry)) (now (heads .entry))) (from .nodes) (from .edges) (from .node)) ⌝ }
+    requires low { ⌜ LowPoints (points (now pxs) (now pys)) ⌝ }
+    requires room { ⌜ Ready (linesIn (filing (points (now pxs) (now pys)) (now filed) (now newest)) (points (now lx) (now ly)) (now starts) lines 0) (tracedIn (now xs) (now ys) (now older) (now buckets) (now ends) (now weights) (now next) (now heads) from) ⌝ }
+    ensures { λ r. ⌜ tracedIn (now (xs .exit)) (now (ys .exit)) (now (older .exit)) (now (buckets .exit)) (now (ends .exit)) (now (weights .exit)) (now (next .exit)) (now (heads .exit)) r ≡ tracedAlong origin (linesIn (filing (points (now (pxs .entry)) (now (pys .entry))) (now (filed .entry)) (now (newest .entry))) (points (now (lx .entry)) (now (ly .entry))) (now (starts .entry)) lines 0) (tracedIn (now (xs .entry)) (now (ys .entry)) (now (older .entry)) (now (buckets .entry)) (now (ends .entry)) (now (weights .entry)) (now (next .entry)) (now (heads .entry)) from) ⌝ }
 {
     let mut t = from;
     let mut i = 0;
@@ -67,7 +64,6 @@ pub fn trace_lines(
             keys,
             sx,
             sy,
-            dists,
             pxs,
             pys,
             filed,
@@ -89,19 +85,18 @@ pub fn trace_links(
     ys: &mut [u32; MOST_NODES],
     older: &mut [u16; MOST_NODES],
     buckets: &mut [u16; BUCKETS],
-    ends: &mut [u16; 2 * EDGE_ROOM],
+    ends: &mut [u16; ARC_ROOM],
     weights: &mut [f64; EDGE_ROOM],
-    next: &mut [u16; 2 * EDGE_ROOM],
+    next: &mut [u16; ARC_ROOM],
     heads: &mut [u16; 2 * MOST_NODES],
-    dists: &[u64; MOST_SPLITS],
     pxs: &[u32; MOST_SPLITS],
     pys: &[u32; MOST_SPLITS],
     links: usize,
     from: Trail,
 ) -> Trail
     requires few { ⌜ links ≤ mostLinks ⌝ }
-    requires room { ⌜ Ready (linksIn (keyed (now dists) (now pxs) (now pys)) links 0) (traced (table (now xs) (now ys) (now older) (now buckets)) (adjacency (now ends) (now weights) (now next) (now heads)) (from .nodes) (from .edges) (from .node)) ⌝ }
-    ensures { λ r. ⌜ traced (table (now (xs .exit)) (now (ys .exit)) (now (older .exit)) (now (buckets .exit))) (adjacency (now (ends .exit)) (now (weights .exit)) (now (next .exit)) (now (heads .exit))) (r .nodes) (r .edges) (r .node) ≡ tracedAlong origin (linksIn (keyed (now (dists .entry)) (now (pxs .entry)) (now (pys .entry))) links 0) (traced (table (now (xs .entry)) (now (ys .entry)) (now (older .entry)) (now (buckets .entry))) (adjacency (now (ends .entry)) (now (weights .entry)) (now (next .entry)) (now (heads .entry))) (from .nodes) (from .edges) (from .node)) ⌝ }
+    requires room { ⌜ Ready (linksIn (points (now pxs) (now pys)) links 0) (tracedIn (now xs) (now ys) (now older) (now buckets) (now ends) (now weights) (now next) (now heads) from) ⌝ }
+    ensures { λ r. ⌜ tracedIn (now (xs .exit)) (now (ys .exit)) (now (older .exit)) (now (buckets .exit)) (now (ends .exit)) (now (weights .exit)) (now (next .exit)) (now (heads .exit)) r ≡ tracedAlong origin (linksIn (points (now (pxs .entry)) (now (pys .entry))) links 0) (tracedIn (now (xs .entry)) (now (ys .entry)) (now (older .entry)) (now (buckets .entry)) (now (ends .entry)) (now (weights .entry)) (now (next .entry)) (now (heads .entry)) from) ⌝ }
 {
     let mut t = from;
     let mut k = 0;
@@ -112,7 +107,7 @@ pub fn trace_links(
         let py = pys[a];
         let qx = pxs[b];
         let qy = pys[b];
-        let v = graph_strokes::begin(xs, ys, older, buckets, t.nodes, t.edges, px, py);
+        let v = graph_strokes::begin(xs, ys, older, buckets, t, px, py);
         t = graph_strokes::step(
             xs,
             ys,
@@ -122,9 +117,7 @@ pub fn trace_links(
             weights,
             next,
             heads,
-            v.nodes,
-            v.edges,
-            v.node,
+            v,
             px,
             py,
             qx,

@@ -9,10 +9,11 @@ use lib.ListN.{length, getD, set, replicate, length-set, length-replicate, getD-
 use lib.Seq.{getD-set-same, getD-set-other}
 use lib.Dec.{eqb}
 use borrow.Author.Tests.{eqb-true, eqb-false}
-use Rattle.graph_segment_ends.specs.Ends.{Filed, endRoom, fileEnd, filed}
+use Rattle.limits.specs.Limits.{mostPoints, mostSplits}
+use Rattle.graph_segment_ends.specs.Ends.{Filed, fileEnd, filed}
 
 abbrev pub noEnds : Filed
-noEnds = filed (replicate 1024 510) (replicate 510 510)
+noEnds = filed (replicate mostPoints mostSplits) (replicate mostSplits mostSplits)
 
 -- with the ends whose segments are gs, the first of which has the number i
 unfoldable pub filedAll : ℕ → List ℕ → Filed → Filed
@@ -27,7 +28,7 @@ newest g i (x ∷ gs) found = elim (eqb x g) [ true ↦ newest g (suc i) gs (i �
 
 -- From the end e on, the ends rs are found, with numbers below m, each older than the one before, and then none.
 unfoldable pub Chained : ℕ → List ℕ → ℕ → List ℕ → Type 0
-Chained m ns e [] = endRoom ≤ e
+Chained m ns e [] = mostSplits ≤ e
 Chained m ns e (r ∷ rs) = (e ≡ r) × (r < m) × Chained r ns (getD ns r 0) rs
 
 pub chained-length : (m : ℕ) (ns : List ℕ) (e : ℕ) (rs : List ℕ) → Chained m ns e rs → length rs ≤ m
@@ -53,7 +54,7 @@ chained-set m i v ns e (r ∷ rs) h c =
 
 unfoldable pub Below : List ℕ → Type 0
 Below [] = Unit
-Below (g ∷ gs) = (g < 1024) × Below gs
+Below (g ∷ gs) = (g < mostPoints) × Below gs
 
 heads-long : (i x : ℕ) (t : Filed) → length (fileEnd i x t .heads) ≡ length (t .heads)
 unfolding fileEnd
@@ -64,7 +65,7 @@ unfolding fileEnd
 next-long i x t = length-set (t .next) i (getD (t .heads) x 0)
 
 module _ (g : ℕ) where
-  turn : (i x : ℕ) (t : Filed) (found : List ℕ) → i < 510 → x < 1024 → length (t .heads) ≡ 1024 → length (t .next) ≡ 510 → Chained i (t .next) (getD (t .heads) g 0) found
+  turn : (i x : ℕ) (t : Filed) (found : List ℕ) → i < mostSplits → x < mostPoints → length (t .heads) ≡ mostPoints → length (t .next) ≡ mostSplits → Chained i (t .next) (getD (t .heads) g 0) found
       → (b : Bool) → eqb x g ≡ b → Chained (suc i) (fileEnd i x t .next) (getD (fileEnd i x t .heads) g 0) (elim b [ true ↦ i ∷ found | false ↦ found ])
   unfolding fileEnd Chained
   turn i x t found hi hx lh ln c true b =
@@ -86,7 +87,7 @@ module _ (g : ℕ) where
   newest-elim i x gs found true = refl
   newest-elim i x gs found false = refl
 
-  chained-all : (i : ℕ) (gs : List ℕ) (t : Filed) (found : List ℕ) → i + length gs ≤ 510 → Below gs → length (t .heads) ≡ 1024 → length (t .next) ≡ 510
+  chained-all : (i : ℕ) (gs : List ℕ) (t : Filed) (found : List ℕ) → i + length gs ≤ mostSplits → Below gs → length (t .heads) ≡ mostPoints → length (t .next) ≡ mostSplits
       → Chained i (t .next) (getD (t .heads) g 0) found → Chained (i + length gs) (filedAll i gs t .next) (getD (filedAll i gs t .heads) g 0) (newest g i gs found)
   unfolding filedAll newest Below
   chained-all i [] t found h b lh ln c = subst (λ (k : ℕ). Chained k (t .next) (getD (t .heads) g 0) found) (sym (add-zero i)) c
@@ -98,10 +99,10 @@ module _ (g : ℕ) where
       subst (λ (k : ℕ). Chained k (filedAll (suc i) gs t' .next) (getD (filedAll (suc i) gs t' .heads) g 0) (newest g i (x ∷ gs) found)) (suc-add i (length gs) ∙ sym (add-suc i (length gs))) all
 
 -- Following the list of a segment gives its ends, the newest first.
-pub filed-chained : (gs : List ℕ) (g : ℕ) → length gs ≤ 510 → Below gs → g < 1024
+pub filed-chained : (gs : List ℕ) (g : ℕ) → length gs ≤ mostSplits → Below gs → g < mostPoints
     → Chained (length gs) (filedAll 0 gs noEnds .next) (getD (filedAll 0 gs noEnds .heads) g 0) (newest g 0 gs [])
 unfolding Chained
 filed-chained gs g h b hg =
-    let none : endRoom ≤ getD (noEnds .heads) g 0 = omega (arith, getD-replicate {A = ℕ} 1024 g 510 0 hg) in
+    let none : mostSplits ≤ getD (noEnds .heads) g 0 = omega (arith, getD-replicate {A = ℕ} mostPoints g mostSplits 0 hg) in
     subst (λ (k : ℕ). Chained k (filedAll 0 gs noEnds .next) (getD (filedAll 0 gs noEnds .heads) g 0) (newest g 0 gs [])) (zero-add (length gs))
-    (chained-all g 0 gs noEnds [] (omega arith) b (length-replicate {A = ℕ} 1024 510) (length-replicate {A = ℕ} 510 510) none)
+    (chained-all g 0 gs noEnds [] (omega arith) b (length-replicate {A = ℕ} mostPoints mostSplits) (length-replicate {A = ℕ} mostSplits mostSplits) none)

@@ -2,12 +2,8 @@
 use mathlib.Core.List.{List}
 use Prim.Native.Nat.{ℕ}
 use lib.ListN.{getD, set}
-use Rattle.limits.specs.Limits.{mostSplits}
 
-abbrev pub endRoom : ℕ
-endRoom = mostSplits
-
--- `heads` has the newest end of each segment, `next` has for each end the next older one of its segment; 510 is none
+-- `heads` has the newest end of each segment, `next` has for each end the next older one of its segment; mostSplits is none
 pub record Filed : Type 0 where
   pub heads : List ℕ
   pub next : List ℕ

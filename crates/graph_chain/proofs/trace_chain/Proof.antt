@@ -1,13 +1,11 @@
--- `trace_chain::trace_chain` meets its contract. The invariant: at the point p, what is to come leads to the answer. Assumes nothing.
+-- `graph_chain::trace_chain` meets its contract. The invariant: at the point p, what is to come leads to the answer. Assumes nothing.
 use mathlib.Core.Path.{_≡_, refl, sym, _∙_}
 use Prim.Native.Nat.{_+_, _-_}
 use native.Mathlib.Omega.{arith}
 use borrow.Author.Needs.{needs}
-use Rattle.graph_adjacency.specs.Lists.{adjacency}
-use Rattle.graph_nodes.specs.Table.{table}
 use Rattle.graph_splits.specs.Next.{at}
 use Rattle.graph_moves.specs.Moves.{drawAll}
-use Rattle.graph_strokes.specs.Step.{traced}
+use Rattle.graph_strokes.specs.Step.{tracedIn}
 use Rattle.graph_chain.specs.Kept.{chainIn}
 use Rattle.graph_chain.proofs.Kept.{found-after}
 use Rattle.graph_chain.specs.Along.{tracedAlong}
@@ -18,12 +16,12 @@ use Rattle.graph_chain.proofs.trace_chain.Reads as reads
 use Rattle.graph_chain.proofs.trace_chain.Lts as lts
 
 abbrev Inv-loop : tie.InvT-loop
-Inv-loop xs₀ ys₀ older₀ buckets₀ ends₀ weights₀ next₀ heads₀ sx sy count ax ay bx by n₀ m₀ u₀ px₀ py₀ j₀ xs ys older buckets ends weights next heads n m u px py j =
-    Walking sx sy count (at ax ay) (at bx by) (at px py) j (traced (table xs ys older buckets) (adjacency ends weights next heads) n m u)
-    (tracedAlong (at ax ay) (drawAll (chainIn sx sy count (at ax ay) (at bx by))) (traced (table xs₀ ys₀ older₀ buckets₀) (adjacency ends₀ weights₀ next₀ heads₀) n₀ m₀ u₀))
+Inv-loop xs₀ ys₀ older₀ buckets₀ ends₀ weights₀ next₀ heads₀ sx sy count ax ay bx by t₀ px₀ py₀ j₀ xs ys older buckets ends weights next heads t px py j =
+    Walking sx sy count (at ax ay) (at bx by) (at px py) j (tracedIn xs ys older buckets ends weights next heads t)
+    (tracedAlong (at ax ay) (drawAll (chainIn sx sy count (at ax ay) (at bx by))) (tracedIn xs₀ ys₀ older₀ buckets₀ ends₀ weights₀ next₀ heads₀ t₀))
 
 abbrev μ-loop : tie.MeasureT-loop
-μ-loop xs₀ ys₀ older₀ buckets₀ ends₀ weights₀ next₀ heads₀ sx sy count ax ay bx by n₀ m₀ u₀ px₀ py₀ j₀ xs ys older buckets ends weights next heads n m u px py j = count - j
+μ-loop xs₀ ys₀ older₀ buckets₀ ends₀ weights₀ next₀ heads₀ sx sy count ax ay bx by t₀ px₀ py₀ j₀ xs ys older buckets ends weights next heads t px py j = count - j
 
 next-split-requires : tie.Need-next-split-requires Inv-loop μ-loop
 next-split-requires c κs = search needs
@@ -44,7 +42,7 @@ element-copy-out-qy : tie.Need-element-copy-out-qy Inv-loop μ-loop
 element-copy-out-qy c = search needs
 
 step-requires : tie.Need-step-requires Inv-loop μ-loop
-step-requires c κs = let r = split-ready _ _ _ _ _ _ _ _ _ (c .before .before .before .before .before .before .before .before .before .before .before .loop .inv) (c .before .before .before .before .before .before .before .before .before .before .loop-test .taken) in ((r .nodes-fit, r .edges-fit, r .node-fits), (r .from-low .0, r .from-low .1, r .to-low .0, r .to-low .1))
+step-requires c κs = split-ready _ _ _ _ _ _ _ _ _ (c .before .before .before .before .before .before .before .before .before .before .before .loop .inv) (c .before .before .before .before .before .before .before .before .before .before .loop-test .taken)
 
 add-next-split : tie.Need-add-next-split Inv-loop μ-loop
 add-next-split c = search needs
@@ -59,7 +57,7 @@ loop-again : tie.Need-loop-again Inv-loop μ-loop
 loop-again c = split-drawn _ _ _ _ _ _ _ _ _ (c .before .before .before .before .before .before .before .before .before .before .before .before .before .loop .inv) (c .before .before .before .before .before .before .before .before .before .before .before .before .loop-test .taken) _ (c .before .step .ensures) _ (c .next-split2 .ensures .0)
 
 step-requires-2 : tie.Need-step-requires-2 Inv-loop μ-loop
-step-requires-2 c κs = let r = end-ready _ _ _ _ _ _ _ _ _ (c .before .before .before .before .before .before .before .before .before .loop .inv) (c .before .before .before .before .before .before .before .before .loop-test .left) in ((r .nodes-fit, r .edges-fit, r .node-fits), (r .from-low .0, r .from-low .1, r .to-low .0, r .to-low .1))
+step-requires-2 c κs = end-ready _ _ _ _ _ _ _ _ _ (c .before .before .before .before .before .before .before .before .before .loop .inv) (c .before .before .before .before .before .before .before .before .loop-test .left)
 
 returns : tie.Need-returns Inv-loop μ-loop
 returns c = end-drawn _ _ _ _ _ _ _ _ _ (c .before .before .before .before .before .before .before .before .before .before .loop .inv) (c .before .before .before .before .before .before .before .before .before .loop-test .left) _ (c .step2 .ensures)

@@ -1,4 +1,4 @@
--- `file_links::file_link` meets its contract. Assumes nothing.
+-- `graph_filing::file_link` meets its contract. Assumes nothing.
 use native.Mathlib.Omega.{arith}
 use Rattle.graph_filing.proofs.Stored.{link-stored}
 use borrow.Author.Needs.{needs}
@@ -21,7 +21,7 @@ mul-file-one : tie.Need-mul-file-one
 mul-file-one c = search needs
 
 file-one-requires : tie.Need-file-one-requires
-file-one-requires c κs = ((omega (arith, c .before .before .before .before .before .before .before .before .before .before .before .pre .0), c .before .before .before .before .before .before .before .before .before .place-of .ensures .1, c .before .before .before .before .before .before .before .before .place-of2 .ensures .1), (c .before .before .before .before .before .before .before .before .before .before .before .pre .1 .0 .first, c .before .before .before .before .before .before .before .before .before .before .before .pre .1 .1))
+file-one-requires c κs = (omega (arith, c .before .before .before .before .before .before .before .before .before .before .pre .0), c .before .before .before .before .before .before .before .before .before .before .pre .1 .first)
 
 mul-file-one-2 : tie.Need-mul-file-one-2
 mul-file-one-2 c = search needs
@@ -30,10 +30,10 @@ add-file-one : tie.Need-add-file-one
 add-file-one c = search needs
 
 file-one-requires-2 : tie.Need-file-one-requires-2
-file-one-requires-2 c κs = ((omega (arith, c .before .before .before .before .before .before .before .before .before .before .before .before .before .before .before .before .before .pre .0), c .before .before .before .before .before .before .before .before .before .before .before .before .place-of3 .ensures .1, c .before .before .before .before .before .before .before .before .before .before .before .place-of4 .ensures .1), (c .before .before .before .before .before .before .before .before .before .before .before .before .before .before .before .before .before .pre .1 .0 .second, c .before .before .before .before .before .before .before .before .before .before .before .before .before .before .before .before .before .pre .1 .1))
+file-one-requires-2 c κs = (omega (arith, c .before .before .before .before .before .before .before .before .before .before .before .before .before .before .before .pre .0), c .before .before .before .before .before .before .before .before .before .before .before .before .before .before .before .pre .1 .second)
 
 returns : tie.Need-returns
-returns c = link-stored _ _ _ _ _ _ _ _ _ _ _ (c .before .before .before .before .before .before .before .before .before .before .before .before .before .before .before .before .place-of .ensures .0) (c .before .before .before .before .before .before .before .before .before .before .before .before .before .before .before .place-of2 .ensures .0) (c .before .before .before .before .before .before .before .before .before .before .before .before .before .place-of3 .ensures .0) (c .before .before .before .before .before .before .before .before .before .before .before .before .place-of4 .ensures .0) (c .before .before .before .before .before .before .file-one .ensures) (c .file-one2 .ensures)
+returns c = link-stored _ _ _ _ _ _ _ _ _ _ (c .before .before .before .before .before .before .before .before .before .before .before .before .before .before .place-of .ensures) (c .before .before .before .before .before .before .before .before .before .before .before .before .before .place-of2 .ensures) (c .before .before .before .before .before .before .before .before .before .before .before .place-of3 .ensures) (c .before .before .before .before .before .before .before .before .before .before .place-of4 .ensures) (c .before .before .before .before .before .file-one .ensures) (c .file-one2 .ensures)
 
 pub file-link-spec : {M : Type 1} → statement M
 file-link-spec =

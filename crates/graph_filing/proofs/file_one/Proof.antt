@@ -1,4 +1,4 @@
--- `file_links::file_one` meets its contract. Assumes nothing.
+-- `graph_filing::file_one` meets its contract. Assumes nothing.
 use mathlib.Core.Path.{_≡_}
 use Prim.Native.Nat.{_+_}
 use native.Mathlib.Omega.{arith}
@@ -16,10 +16,10 @@ wide-requires : tie.Need-wide-requires
 wide-requires c κs = search needs
 
 mul-wide : tie.Need-mul-wide
-mul-wide c = omega (arith, c .before .pre .1 .0 .line-low, c .wide .ensures)
+mul-wide c = omega (arith, c .before .pre .1 .line-low, c .wide .ensures)
 
 element-copy-out-wide : tie.Need-element-copy-out-wide
-element-copy-out-wide c = omega (arith, c .before .pre .1 .0 .line-low, c .wide .ensures)
+element-copy-out-wide c = omega (arith, c .before .pre .1 .line-low, c .wide .ensures)
 
 wide-requires-2 : tie.Need-wide-requires-2
 wide-requires-2 c κs = search needs
@@ -28,31 +28,10 @@ wide-requires-3 : tie.Need-wide-requires-3
 wide-requires-3 c κs = search needs
 
 add-g : tie.Need-add-g
-add-g c = omega (arith, start-is c, c .before .before .before .before .pre .1 .0 .place-low)
-
-mul-ax : tie.Need-mul-ax
-mul-ax c = omega (arith, start-is c, c .before .before .before .before .pre .1 .0 .place-low)
-
-element-copy-out-ax : tie.Need-element-copy-out-ax
-element-copy-out-ax c = omega (arith, start-is c, c .before .before .before .before .pre .1 .0 .place-low)
-
-mul-ay : tie.Need-mul-ay
-mul-ay c = omega (arith, start-is (c .before), c .before .before .before .before .before .pre .1 .0 .place-low)
-
-element-copy-out-ay : tie.Need-element-copy-out-ay
-element-copy-out-ay c = omega (arith, start-is (c .before), c .before .before .before .before .before .pre .1 .0 .place-low)
-
-squared-requires : tie.Need-squared-requires
-squared-requires c κs = let l = c .before .before .before .before .before .before .pre .1 .1 .low (c .before .before .before .wide2 .result + c .before .before .wide3 .result) in (l .0, l .1, c .before .before .before .before .before .before .pre .0 .1, c .before .before .before .before .before .before .pre .0 .2)
+add-g c = omega (arith, start-is c, c .before .before .before .before .pre .1 .place-low)
 
 file-end-requires : tie.Need-file-end-requires
-file-end-requires c κs = (c .before .before .before .before .before .before .before .before .before .pre .0 .0, omega (arith, start-is (c .before .before .before .before .before), c .before .before .before .before .before .before .before .before .before .pre .1 .0 .place-low))
-
-mul-dists : tie.Need-mul-dists
-mul-dists c = search needs
-
-element-write-dists : tie.Need-element-write-dists
-element-write-dists c = search needs
+file-end-requires c κs = (c .before .before .before .before .before .before .pre .0, omega (arith, start-is (c .before .before), c .before .before .before .before .before .before .pre .1 .place-low))
 
 mul-pxs : tie.Need-mul-pxs
 mul-pxs c = search needs
@@ -67,7 +46,7 @@ element-write-pys : tie.Need-element-write-pys
 element-write-pys c = search needs
 
 returns : tie.Need-returns
-returns c = end-stored _ _ _ _ _ _ _ _ _ (start-is (c .before .before .before .before .before .before)) (c .file-end .ensures) (c .before .before .before .squared .ensures)
+returns c = end-stored _ _ _ _ _ _ _ (start-is (c .before .before .before)) (c .file-end .ensures)
 
 pub file-one-spec : {M : Type 1} → statement M
 file-one-spec =
@@ -79,14 +58,7 @@ file-one-spec =
     wide-requires-2
     wide-requires-3
     add-g
-    mul-ax
-    element-copy-out-ax
-    mul-ay
-    element-copy-out-ay
-    squared-requires
     file-end-requires
-    mul-dists
-    element-write-dists
     mul-pxs
     element-write-pxs
     mul-pys

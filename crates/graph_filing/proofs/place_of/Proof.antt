@@ -1,7 +1,7 @@
--- `file_links::place_of` meets its contract. Assumes nothing.
+-- `graph_filing::place_of` meets its contract. Assumes nothing.
 use mathlib.Core.Path.{sym, _∙_}
 use native.Mathlib.Omega.{arith}
-use Rattle.graph_filing.proofs.Floats.{place-read, float-low, float-no-nan}
+use Rattle.graph_filing.proofs.Floats.{place-read, float-no-nan}
 use borrow.Author.Needs.{needs}
 use Rattle.graph_filing.proofs.place_of.Statement.{statement}
 use Rattle.graph_filing.proofs.place_of.Tie as tie
@@ -19,10 +19,10 @@ enum-told : tie.Need-enum-told
 enum-told c = search needs
 
 returns : tie.Need-returns
-returns c = let e = place-read _ (c .before .before .before .before .pre) _ (sym (c .before .place .given .1) ∙ c .before .before .before .read-place .ensures) in (e, omega (arith, e, float-low _ (c .before .before .before .before .pre)))
+returns c = place-read _ (c .before .before .before .before .pre) _ (sym (c .before .place .given .1) ∙ c .before .before .before .read-place .ensures)
 
 returns-2 : tie.Need-returns-2
-returns-2 c = let e = place-read _ (c .before .before .before .pre) _ (sym (c .enum-told .given .1) ∙ c .before .before .read-place .ensures) in (e, omega arith)
+returns-2 c = place-read _ (c .before .before .before .pre) _ (sym (c .enum-told .given .1) ∙ c .before .before .read-place .ensures)
 
 pub place-of-spec : {M : Type 1} → statement M
 place-of-spec =

@@ -1,16 +1,15 @@
--- `trace_lines::trace_line` meets its contract. The invariant: at the point g, what is to come of the line leads to the answer. Assumes nothing.
+-- `graph_line::trace_line` meets its contract. The invariant: at the point g, what is to come of the line leads to the answer. Assumes nothing.
 use mathlib.Core.Path.{_≡_, refl, sym, ap, _∙_}
 use Prim.Native.Nat.{_+_, _-_, _<_}
 use native.Mathlib.Omega.{arith}
 use borrow.Author.Needs.{needs}
-use Rattle.graph_adjacency.specs.Lists.{adjacency}
-use Rattle.graph_nodes.specs.Table.{table}
-use Rattle.graph_segment_ends.specs.Gather.{keyed}
-use Rattle.graph_strokes.specs.Step.{traced}
+use Rattle.graph_splits.specs.Points.{points, pointIn}
+use Rattle.graph_strokes.specs.Step.{tracedIn}
+use Rattle.graph_strokes.proofs.StepLaws.{begin-is}
 use Rattle.graph_chain.specs.Along.{tracedAlong}
 use Rattle.graph_line.specs.Follow.{Scratch}
-use Rattle.graph_line.specs.Lines.{filing, points, pointIn, segmentsFrom}
-use Rattle.graph_line.proofs.Lines.{OnLine, distances-at, ready-count, line-empty, line-begins, line-answer, next-ready, next-drawn, line-ends}
+use Rattle.graph_line.specs.Lines.{filing, segmentsFrom}
+use Rattle.graph_line.proofs.Lines.{OnLine, ready-first, line-empty, line-begins, line-answer, next-ready, next-drawn, line-ends}
 use Rattle.graph_line.proofs.trace_line.Statement.{statement}
 use Rattle.graph_line.proofs.trace_line.Tie as tie
 use Rattle.graph_line.proofs.trace_line.Reads as reads
@@ -20,13 +19,13 @@ use Rattle.graph_line.proofs.trace_segment.Reads as trace-segment-reads
 use Rattle.widen.proofs.wide.Reads as wide-reads
 
 abbrev Inv-loop : tie.InvT-loop
-Inv-loop xs₀ ys₀ older₀ buckets₀ ends₀ weights₀ next₀ heads₀ keys₀ sx₀ sy₀ dists pxs pys filed newest lx ly first stop last qx qy t₀ g₀ xs ys older buckets ends weights next heads keys sx sy t g =
+Inv-loop xs₀ ys₀ older₀ buckets₀ ends₀ weights₀ next₀ heads₀ keys₀ sx₀ sy₀ pxs pys filed newest lx ly first stop last qx qy t₀ g₀ xs ys older buckets ends weights next heads keys sx sy t g =
     Scratch keys sx sy
-    × OnLine (filing (keyed dists pxs pys) filed newest) (points lx ly) stop g (traced (table xs ys older buckets) (adjacency ends weights next heads) (t .nodes) (t .edges) (t .node))
-    (tracedAlong (pointIn (points lx ly) first) (segmentsFrom (filing (keyed dists pxs pys) filed newest) (points lx ly) stop first) (traced (table xs₀ ys₀ older₀ buckets₀) (adjacency ends₀ weights₀ next₀ heads₀) (t₀ .nodes) (t₀ .edges) (t₀ .node)))
+    × OnLine (filing (points pxs pys) filed newest) (points lx ly) stop g (tracedIn xs ys older buckets ends weights next heads t)
+    (tracedAlong (pointIn (points lx ly) first) (segmentsFrom (filing (points pxs pys) filed newest) (points lx ly) stop first) (tracedIn xs₀ ys₀ older₀ buckets₀ ends₀ weights₀ next₀ heads₀ t₀))
 
 abbrev μ-loop : tie.MeasureT-loop
-μ-loop xs₀ ys₀ older₀ buckets₀ ends₀ weights₀ next₀ heads₀ keys₀ sx₀ sy₀ dists pxs pys filed newest lx ly first stop last qx qy t₀ g₀ xs ys older buckets ends weights next heads keys sx sy t g = last - g
+μ-loop xs₀ ys₀ older₀ buckets₀ ends₀ weights₀ next₀ heads₀ keys₀ sx₀ sy₀ pxs pys filed newest lx ly first stop last qx qy t₀ g₀ xs ys older buckets ends weights next heads keys sx sy t g = last - g
 
 returns : tie.Need-returns Inv-loop μ-loop
 returns c = (line-empty _ _ _ _ _ (c .if1 .taken), c .before .pre .1 .0)
@@ -47,10 +46,10 @@ element-copy-out-qy : tie.Need-element-copy-out-qy Inv-loop μ-loop
 element-copy-out-qy c = search needs
 
 begin-requires : tie.Need-begin-requires Inv-loop μ-loop
-begin-requires c κs = ready-count _ _ (c .before .before .before .before .before .before .before .pre .1 .1 .1)
+begin-requires c κs = ready-first _ _ _ _ _ (c .before .before .before .before .before .before .if1 .left) (c .before .before .before .before .before .before .before .pre .1 .1 .1)
 
 loop-holds : tie.Need-loop-holds Inv-loop μ-loop
-loop-holds c = (c .before .before .before .before .before .before .before .before .pre .1 .0, line-begins _ _ _ _ _ _ (c .before .before .before .before .before .before .before .if1 .left) (c .before .before .before .before .before .before .before .before .pre .1 .1 .1) (c .begin .ensures _ _))
+loop-holds c = (c .before .before .before .before .before .before .before .before .pre .1 .0, line-begins _ _ _ _ _ _ (c .before .before .before .before .before .before .before .if1 .left) (c .before .before .before .before .before .before .before .before .pre .1 .1 .1) (begin-is _ _ _ (c .begin .ensures .0) _ (c .begin .ensures .1)))
 
 mul-wide : tie.Need-mul-wide Inv-loop μ-loop
 mul-wide c = search needs
@@ -94,7 +93,7 @@ element-copy-out-by c = search needs
 trace-segment-requires : tie.Need-trace-segment-requires Inv-loop μ-loop
 trace-segment-requires c κs = let low : c .before .before .before .before .before .before .before .before .before .before .before .before .before .before .before .before .before .before .loop .g + 1 < c .before .before .before .before .before .before .before .before .before .before .before .before .before .before .before .before .before .before .before .before .before .before .before .before .before .before .before .args .stop = omega (arith, c .before .before .before .before .before .before .before .before .before .before .before .before .before .before .before .before .before .loop-test .taken) in (
   c .before .before .before .before .before .before .before .before .before .before .before .before .before .before .before .before .before .before .loop .inv .0,
-  (distances-at _ _ (c .before .before .before .before .before .before .before .before .before .before .before .before .before .before .before .before .before .before .before .before .before .before .before .before .before .before .before .pre .1 .1 .0) _ (omega (arith, c .before .before .before .before .before .before .before .before .before .before .before .before .before .before .before .before .before .before .before .before .before .before .before .before .before .before .before .pre .0)) _ (c .before .before .before .before .before .before .before .before .before .before .before .before .before .before .before .wide .ensures), next-ready _ _ _ _ _ _ (c .before .before .before .before .before .before .before .before .before .before .before .before .before .before .before .before .before .before .loop .inv .1) low _ (c .before .before .before .before .before .before .before .before .before .before .before .before .before .before .before .wide .ensures)),
+  (c .before .before .before .before .before .before .before .before .before .before .before .before .before .before .before .before .before .before .before .before .before .before .before .before .before .before .before .pre .1 .1 .0, next-ready _ _ _ _ _ _ (c .before .before .before .before .before .before .before .before .before .before .before .before .before .before .before .before .before .before .loop .inv .1) low _ (c .before .before .before .before .before .before .before .before .before .before .before .before .before .before .before .wide .ensures)),
 )
 
 add-g : tie.Need-add-g Inv-loop μ-loop
@@ -111,7 +110,7 @@ loop-again c = let low : c .before .before .before .before .before .before .befo
 
 returns-2 : tie.Need-returns-2 Inv-loop μ-loop
 returns-2 c = (
-  line-answer _ _ _ _ _ _ _ (c .before .before .before .before .before .before .before .before .before .if1 .left) (c .before .before .begin .ensures _ _) (line-ends _ _ _ _ _ _ (c .before .loop .inv .1) (omega (arith, c .loop-test .left))),
+  line-answer _ _ _ _ _ _ _ (c .before .before .before .before .before .before .before .before .before .if1 .left) (begin-is _ _ _ (c .before .before .begin .ensures .0) _ (c .before .before .begin .ensures .1)) (line-ends _ _ _ _ _ _ (c .before .loop .inv .1) (omega (arith, c .loop-test .left))),
   c .before .loop .inv .0,
 )
 

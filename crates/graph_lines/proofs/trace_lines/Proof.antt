@@ -1,14 +1,12 @@
--- `trace_drawing::trace_lines` meets its contract. The invariant: before line i, what is to come leads to the answer. Assumes nothing.
+-- `graph_lines::trace_lines` meets its contract. The invariant: before line i, what is to come leads to the answer. Assumes nothing.
 use mathlib.Core.Path.{_≡_, refl, sym, ap, _∙_}
 use Prim.Native.Nat.{_+_, _-_, _<_}
 use native.Mathlib.Omega.{arith}
-use Rattle.graph_adjacency.specs.Lists.{adjacency}
-use Rattle.graph_nodes.specs.Table.{table}
-use Rattle.graph_segment_ends.specs.Gather.{keyed}
-use Rattle.graph_strokes.specs.Step.{traced}
+use Rattle.graph_splits.specs.Points.{points}
+use Rattle.graph_strokes.specs.Step.{tracedIn}
 use Rattle.graph_chain.specs.Along.{tracedAlong}
 use Rattle.graph_line.specs.Follow.{Scratch}
-use Rattle.graph_line.specs.Lines.{filing, points, origin}
+use Rattle.graph_line.specs.Lines.{filing, origin}
 use Rattle.graph_lines.specs.All.{linesIn}
 use Rattle.graph_lines.proofs.All.{OnLines, start-low, lines-begin, line-ready, line-drawn, lines-end}
 use borrow.Author.Needs.{needs}
@@ -20,13 +18,13 @@ use Rattle.widen.proofs.wide.Reads as wide-reads
 use Rattle.graph_line.proofs.trace_line.Reads as trace-line-reads
 
 abbrev Inv-loop : tie.InvT-loop
-Inv-loop xs₀ ys₀ older₀ buckets₀ ends₀ weights₀ next₀ heads₀ keys₀ sx₀ sy₀ dists pxs pys filed newest lx ly starts lines t₀ i₀ xs ys older buckets ends weights next heads keys sx sy t i =
+Inv-loop xs₀ ys₀ older₀ buckets₀ ends₀ weights₀ next₀ heads₀ keys₀ sx₀ sy₀ pxs pys filed newest lx ly starts lines t₀ i₀ xs ys older buckets ends weights next heads keys sx sy t i =
     Scratch keys sx sy
-    × OnLines (filing (keyed dists pxs pys) filed newest) (points lx ly) starts lines i (traced (table xs ys older buckets) (adjacency ends weights next heads) (t .nodes) (t .edges) (t .node))
-    (tracedAlong origin (linesIn (filing (keyed dists pxs pys) filed newest) (points lx ly) starts lines 0) (traced (table xs₀ ys₀ older₀ buckets₀) (adjacency ends₀ weights₀ next₀ heads₀) (t₀ .nodes) (t₀ .edges) (t₀ .node)))
+    × OnLines (filing (points pxs pys) filed newest) (points lx ly) starts lines i (tracedIn xs ys older buckets ends weights next heads t)
+    (tracedAlong origin (linesIn (filing (points pxs pys) filed newest) (points lx ly) starts lines 0) (tracedIn xs₀ ys₀ older₀ buckets₀ ends₀ weights₀ next₀ heads₀ t₀))
 
 abbrev μ-loop : tie.MeasureT-loop
-μ-loop xs₀ ys₀ older₀ buckets₀ ends₀ weights₀ next₀ heads₀ keys₀ sx₀ sy₀ dists pxs pys filed newest lx ly starts lines t₀ i₀ xs ys older buckets ends weights next heads keys sx sy t i = lines - i
+μ-loop xs₀ ys₀ older₀ buckets₀ ends₀ weights₀ next₀ heads₀ keys₀ sx₀ sy₀ pxs pys filed newest lx ly starts lines t₀ i₀ xs ys older buckets ends weights next heads keys sx sy t i = lines - i
 
 loop-holds : tie.Need-loop-holds Inv-loop μ-loop
 loop-holds c = (c .pre .1 .1 .0, lines-begin _ _ _ _ _ (c .pre .1 .1 .1 .1))

@@ -1,15 +1,14 @@
--- `trace_drawing::trace_links` meets its contract. The invariant: before link k, what is to come leads to the answer. Assumes nothing.
+-- `graph_lines::trace_links` meets its contract. The invariant: before link k, what is to come leads to the answer. Assumes nothing.
 use mathlib.Core.Path.{_≡_, refl, sym, ap, _∙_}
 use Prim.Native.Nat.{_+_, _-_, _<_}
 use native.Mathlib.Omega.{arith}
-use Rattle.graph_adjacency.specs.Lists.{adjacency}
-use Rattle.graph_nodes.specs.Table.{table}
-use Rattle.graph_segment_ends.specs.Gather.{keyed}
-use Rattle.graph_strokes.specs.Step.{traced}
+use Rattle.graph_splits.specs.Points.{points}
+use Rattle.graph_strokes.specs.Step.{tracedIn}
+use Rattle.graph_strokes.proofs.StepLaws.{begin-is}
 use Rattle.graph_chain.specs.Along.{tracedAlong}
 use Rattle.graph_line.specs.Lines.{origin}
 use Rattle.graph_lines.specs.All.{linksIn}
-use Rattle.graph_lines.proofs.All.{OnLinks, links-begin, link-count, second-ready, link-drawn, links-end}
+use Rattle.graph_lines.proofs.All.{OnLinks, links-begin, first-ready, second-ready, link-drawn, links-end}
 use borrow.Author.Needs.{needs}
 use Rattle.graph_lines.proofs.trace_links.Statement.{statement}
 use Rattle.graph_lines.proofs.trace_links.Tie as tie
@@ -19,12 +18,12 @@ use Rattle.graph_strokes.proofs.begin.Reads as begin-reads
 use Rattle.graph_strokes.proofs.step.Reads as step-reads
 
 abbrev Inv-loop : tie.InvT-loop
-Inv-loop xs₀ ys₀ older₀ buckets₀ ends₀ weights₀ next₀ heads₀ dists pxs pys links t₀ k₀ xs ys older buckets ends weights next heads t k =
-    OnLinks (keyed dists pxs pys) links k (traced (table xs ys older buckets) (adjacency ends weights next heads) (t .nodes) (t .edges) (t .node))
-    (tracedAlong origin (linksIn (keyed dists pxs pys) links 0) (traced (table xs₀ ys₀ older₀ buckets₀) (adjacency ends₀ weights₀ next₀ heads₀) (t₀ .nodes) (t₀ .edges) (t₀ .node)))
+Inv-loop xs₀ ys₀ older₀ buckets₀ ends₀ weights₀ next₀ heads₀ pxs pys links t₀ k₀ xs ys older buckets ends weights next heads t k =
+    OnLinks (points pxs pys) links k (tracedIn xs ys older buckets ends weights next heads t)
+    (tracedAlong origin (linksIn (points pxs pys) links 0) (tracedIn xs₀ ys₀ older₀ buckets₀ ends₀ weights₀ next₀ heads₀ t₀))
 
 abbrev μ-loop : tie.MeasureT-loop
-μ-loop xs₀ ys₀ older₀ buckets₀ ends₀ weights₀ next₀ heads₀ dists pxs pys links t₀ k₀ xs ys older buckets ends weights next heads t k = links - k
+μ-loop xs₀ ys₀ older₀ buckets₀ ends₀ weights₀ next₀ heads₀ pxs pys links t₀ k₀ xs ys older buckets ends weights next heads t k = links - k
 
 loop-holds : tie.Need-loop-holds Inv-loop μ-loop
 loop-holds c = links-begin _ _ _ (c .pre .1)
@@ -60,10 +59,10 @@ element-copy-out-qy : tie.Need-element-copy-out-qy Inv-loop μ-loop
 element-copy-out-qy c = search needs
 
 begin-requires : tie.Need-begin-requires Inv-loop μ-loop
-begin-requires c κs = link-count _ _ _ _ _ (c .before .before .before .before .before .before .before .before .before .loop .inv)
+begin-requires c κs = first-ready _ _ _ _ _ (c .before .before .before .before .before .before .before .before .before .loop .inv) (c .before .before .before .before .before .before .before .before .loop-test .taken)
 
 step-requires : tie.Need-step-requires Inv-loop μ-loop
-step-requires c κs = let r = second-ready _ _ _ _ _ (c .before .before .before .before .before .before .before .before .before .before .before .before .before .before .before .before .before .before .loop .inv) (c .before .before .before .before .before .before .before .before .before .before .before .before .before .before .before .before .before .loop-test .taken) _ (c .before .before .before .before .before .before .before .before .begin .ensures _ _) in ((r .nodes-fit, r .edges-fit, r .node-fits), (r .from-low .0, r .from-low .1, r .to-low .0, r .to-low .1))
+step-requires c κs = second-ready _ _ _ _ _ (c .before .before .before .before .before .before .before .before .before .before .before .before .before .before .before .before .before .before .loop .inv) (c .before .before .before .before .before .before .before .before .before .before .before .before .before .before .before .before .before .loop-test .taken) _ (begin-is _ _ _ (c .before .before .before .before .before .before .before .before .begin .ensures .0) _ (c .before .before .before .before .before .before .before .before .begin .ensures .1))
 
 add-k : tie.Need-add-k Inv-loop μ-loop
 add-k c = search needs
@@ -72,7 +71,7 @@ loop-less : tie.Need-loop-less Inv-loop μ-loop
 loop-less c = search needs
 
 loop-again : tie.Need-loop-again Inv-loop μ-loop
-loop-again c = link-drawn _ _ _ _ _ (c .before .before .before .before .before .before .before .before .before .before .before .before .before .before .before .before .before .before .before .loop .inv) (c .before .before .before .before .before .before .before .before .before .before .before .before .before .before .before .before .before .before .loop-test .taken) _ (c .before .before .before .before .before .before .before .before .before .begin .ensures _ _) _ (c .step .ensures)
+loop-again c = link-drawn _ _ _ _ _ (c .before .before .before .before .before .before .before .before .before .before .before .before .before .before .before .before .before .before .before .loop .inv) (c .before .before .before .before .before .before .before .before .before .before .before .before .before .before .before .before .before .before .loop-test .taken) _ (begin-is _ _ _ (c .before .before .before .before .before .before .before .before .before .begin .ensures .0) _ (c .before .before .before .before .before .before .before .before .before .begin .ensures .1)) _ (c .step .ensures)
 
 returns : tie.Need-returns Inv-loop μ-loop
 returns c = links-end _ _ _ _ _ (c .before .loop .inv) (c .loop-test .left)

@@ -1,4 +1,4 @@
--- `trace::draw` meets its contract. Assumes nothing.
+-- `graph_strokes::draw` meets its contract. Assumes nothing.
 use Rattle.graph_splits.specs.Next.{at}
 use Rattle.graph_adjacency.specs.Lists.{adjacency}
 use Rattle.graph_strokes.proofs.Trace.{drawn-nothing, drawn-edge}
