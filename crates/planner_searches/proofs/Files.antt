@@ -11,22 +11,17 @@ use Rattle.drawing_spec.specs.Read.{recordsOf}
 use Rattle.drawing_spec.proofs.OnGrid.{lines-on, links-on}
 use Rattle.drawing_spec.proofs.Accepted.{Fits, counts-fit}
 use Rattle.graph_spec.specs.Reach.{allReached}
-use Rattle.repair_spec.specs.Retrace.{shortestPath}
 use Rattle.repair_spec.specs.Repair.{Repairing, stopped, repaired}
 use Rattle.planner_spec.specs.Plan.{drawingIn, graphIn, repairIn, stoppedBy}
 use Rattle.graph_spec.specs.Weights.{Searchable}
 use Rattle.graph_counts.proofs.Lengths.{drawn-searchable}
 use Rattle.graph_counts.proofs.Nodes.{counted-few}
 use Rattle.repair_early_exit.proofs.Never.{Sound, reached-one-piece, repair-sound}
-use Rattle.repair_early_exit.proofs.ShortSearch.{pathTo, same-path}
 
 module _ (file : List ℕ) (fits : Fits file) where
   pub graph-searchable : Searchable (length (graphIn file .nodes)) (graphIn file .edges)
   unfolding graphIn drawingIn
   graph-searchable = drawn-searchable (drawingIn file) (lines-on (recordsOf file)) (links-on (recordsOf file)) (omega (arith, counted-few (drawingIn file) (counts-fit (drawingIn file) (fits .counts)) .nodes))
-
-  pub graph-path : (s t : ℕ) → pathTo (length (graphIn file .nodes)) (graphIn file .edges) s t ≡ shortestPath (length (graphIn file .nodes)) (graphIn file .edges) s t
-  graph-path = same-path (length (graphIn file .nodes)) (graphIn file .edges) graph-searchable
 
   -- where every node is reached, repair stops with 13 or not at all
   module _ (reached : allReached (length (graphIn file .nodes)) (graphIn file .edges) ≡ true) where

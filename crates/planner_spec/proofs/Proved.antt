@@ -66,6 +66,9 @@ passes file lent e =
     let c = none-holds (planConditions file lent) e in
     record { connected = not-false (allReached (length (graphIn file .nodes)) (graphIn file .edges)) (c .0); not12 = c .1 .1 .1 .0; not13 = c .1 .1 .1 .1 .0 }
 
+pub passed-connected : (file : List ℕ) (lent : Lent) → verdict (planConditions file lent) ≡ accepted → allReached (length (graphIn file .nodes)) (graphIn file .edges) ≡ true
+passed-connected file lent e = passes file lent e .connected
+
 -- so there is a repair
 stops-in : (file : List ℕ) (k : ℕ) → repairIn file ≡ stopped k → (k ≡ refusedPath) ⊎ (k ≡ refusedEdges)
 unfolding repairIn

@@ -1,25 +1,22 @@
 -- How closing ends, by what code finds: whether the line is to be closed, the odd nodes, and the answer of the last retrace. Assumes nothing.
 use mathlib.Core.Path.{_≡_, refl, sym, ap, subst, _∙_}
-use mathlib.Core.Logic.{inl, inr}
 use mathlib.Core.List.{List, [], _∷_}
 use mathlib.Core.Bool.{Bool, true, false}
-use Prim.Native.Nat.{ℕ, zero, suc, _<_}
-use native.Mathlib.Nat.{le-of-suc-le-suc}
+use Prim.Native.Nat.{ℕ, _<_}
 use native.Mathlib.Omega.{arith}
 use lib.ListN.{length, getD}
 use lib.Seq.{getD-take}
 use lib.Dec.{eqb}
 use lib.Ieee.{Float, binary64, add}
 use borrow.Author.Tests.{eq-eqb, ne-eqb}
-use Rattle.drawing_spec.specs.Members.{In}
 use Rattle.graph_spec.specs.Graph.{Edge}
 use Rattle.graph_spec.specs.Degree.{oddNodes}
-use Rattle.graph_spec.proofs.Odd.{oddNodes-member}
 use Rattle.graph_adjacency.specs.Lists.{Adjacency}
 use Rattle.graph_arrays.specs.Arrays.{edgesIn, EdgesHeld, Front}
 use Rattle.repair_spec.specs.Distance.{zeroLength}
 use Rattle.repair_spec.specs.Pairing.{Pair, pair}
 use Rattle.repair_spec.specs.Repair.{Repair, Repairing, stopped, repaired, withSum, addSum, applyMatching, close, closeIf}
+use Rattle.repair_spec.proofs.Repaired.{odd-at}
 use Rattle.repair_copies.specs.Laying.{laidOf}
 use Rattle.repair_retrace.specs.Outcome.{Outcome, refused, done, outcome, under}
 use Rattle.repair_retrace.specs.declared.Applied.{Applied}
@@ -39,14 +36,6 @@ added-same x (repaired r) = refl
 -- the two nodes that are left odd
 abbrev lastPair : ℕ → List Edge → Pair
 lastPair n es = pair (getD (oddNodes n es) 0 0) (getD (oddNodes n es) 1 0)
-
-in-at : (vs : List ℕ) (i : ℕ) → i < length vs → In (getD vs i 0) vs
-in-at [] i h = absurd (omega (arith, h))
-in-at (v ∷ vs) zero h = inl refl
-in-at (v ∷ vs) (suc i) h = inr (in-at vs i (le-of-suc-le-suc h))
-
-pub odd-inside : (n : ℕ) (es : List Edge) (i : ℕ) → i < length (oddNodes n es) → getD (oddNodes n es) i 0 < n
-odd-inside n es i h = oddNodes-member n es (getD (oddNodes n es) i 0) .0 (in-at (oddNodes n es) i h) .0
 
 module _ (most number n : ℕ) where
   -- ---- by the count of odd nodes
@@ -115,7 +104,7 @@ module _ (most number n : ℕ) where
       node j h = sym (getD-take count odd j 0 h) ∙ ap (λ (vs : List ℕ). getD vs j 0) (F .are)
 
       pub node-below : (j : ℕ) → j < count → getD odd j 0 < n
-      node-below j h = subst (λ (v : ℕ). v < n) (sym (node j h)) (odd-inside n es j (omega (arith, F .counts)))
+      node-below j h = subst (λ (v : ℕ). v < n) (sym (node j h)) (odd-at n es j (omega (arith, F .counts)))
 
       module _ (two : count ≡ 2) (u v : ℕ) (isU : u ≡ getD odd 0 0) (isV : v ≡ getD odd 1 0) where
         is-last : pair u v ≡ lastPair n es

@@ -117,7 +117,7 @@ module _ (n : ℕ) (es : List Edge) (G : Searchable n es) (s : ℕ) (b : s < n) 
   ]
 
   -- a node with a way to it is not infinitely far
-  reached-near : {v : ℕ} → Reach es s v → Near v
+  pub reached-near : {v : ℕ} → Reach es s v → Near v
   reached-near here = lt-of-le-of-lt (least s .below zeroLength Way.here) (lit< tt)
   reached-near (on {u} {v} r j) =
       let h = reached-near r in

@@ -1,26 +1,21 @@
--- What a retrace leaves can be searched like what it found, so distances are least in every search that `applyMatching` makes; and how many edges there are after it is known
--- before a copy is laid.
+-- What a retrace leaves can be searched like what it found, and how many edges there are after it is known before a copy is laid. Assumes nothing.
 use mathlib.Core.Path.{_≡_, refl, ap}
 use mathlib.Core.List.{List, [], _∷_}
 use mathlib.Core.Bool.{Bool, true, false, true≢false}
-use Prim.Native.Nat.{ℕ, zero, suc, _+_, _-_, _≤_, _<_}
+use Prim.Native.Nat.{ℕ, zero, suc, _+_, _-_, _≤_}
 use native.Mathlib.Omega.{arith}
 use lib.Dec.{eqb, leb}
-use lib.ListN.{length, length-append}
+use lib.ListN.{length}
 use lib.Ieee.{Float}
 use Rattle.limits.specs.Limits.{refusedPath}
-use Rattle.drawing_spec.specs.Members.{All}
 use Rattle.graph_spec.specs.Graph.{Edge, edgesAt}
 use Rattle.graph_spec.specs.Ways.{Walks}
 use Rattle.repair_spec.specs.Distance.{distanceAt, distances}
 use Rattle.repair_spec.specs.Retrace.{Path, Step, to, none, found, error, stepBack, wayBack, shortestPath, Laid, lay, layPath}
-use Rattle.repair_spec.proofs.Least.{least-distance}
-use Rattle.repair_spec.specs.Cost.{Least}
 use Rattle.repair_spec.proofs.Along.{shortest-along}
-use Rattle.repair_spec.proofs.Applied.{retraced}
-use Rattle.repair_spec.proofs.Copies.{copy, laid, lay-copied, lay-inside, lay-weights}
+use Rattle.repair_spec.proofs.Copies.{lay-copied, lay-inside, lay-weights, lay-count}
 use Rattle.repair_spec.specs.Pairing.{Pair}
-use Rattle.repair_spec.specs.Repair.{Repair, Repairing, stopped, applyMatching}
+use Rattle.repair_spec.specs.Repair.{Repair, Repairing, stopped, retraced, applyMatching}
 use Rattle.graph_spec.specs.Weights.{Searchable}
 
 -- ---- copies have the lengths of edges that were there
@@ -39,36 +34,7 @@ retrace-searchable n l s t path is G =
     let a = shortest-along n (l .edges) s t path is in
     rw (a .1) (lay-searchable n s (a .0) l t (a .2) G)
 
--- ---- every search of `applyMatching`
-
--- the pairs ps are applied to r, and for the pair p among them the edges es are searched
-pub data Searched (n : ℕ) : List Pair → Repair → List Edge → Pair → Type 0 where
-  now : {p : Pair} {ps : List Pair} {r : Repair} → Searched n (p ∷ ps) r (r .edges) p
-  later : {p : Pair} {ps : List Pair} {r : Repair} {path : List ℕ} {es : List Edge} {q : Pair} → shortestPath n (r .edges) (p .from) (p .to) ≡ found path
-      → Searched n ps (retraced path r) es q → Searched n (p ∷ ps) r es q
-
-module _ (n : ℕ) where
-  pub searched-searchable : {ps : List Pair} {r : Repair} {es : List Edge} {q : Pair} → Searched n ps r es q → Searchable n (r .edges) → Searchable n es
-  searched-searchable now G = G
-  searched-searchable (later {p = p} {r = r} {path = path} is h) G =
-      searched-searchable h (retrace-searchable n (record { edges = r .edges; sum = r .sum }) (p .from) (p .to) path is G)
-
-  searched-from : {ps : List Pair} {r : Repair} {es : List Edge} {q : Pair} → Searched n ps r es q → All (λ (p : Pair). p .from < n) ps → q .from < n
-  searched-from now a = a .0
-  searched-from (later is h) a = searched-from h (a .1)
-
-  pub searched-least : {ps : List Pair} {r : Repair} {es : List Edge} {q : Pair} → Searched n ps r es q → Searchable n (r .edges) → All (λ (p : Pair). p .from < n) ps
-      → (v : ℕ) → Least es (q .from) v (distanceAt (distances n es (q .from)) v)
-  searched-least {es = es} {q} h G a =
-      let H = searched-searchable h G in
-      least-distance n es (H .weights) (H .inside) (q .from) (searched-from h a)
-
 -- ---- how many edges there are after a retrace, and how long its path is
-
-pub lay-count : (u : ℕ) (vs : List ℕ) (l : Laid) → length (lay u vs l .edges) ≡ length (l .edges) + length vs
-unfolding lay
-lay-count u [] l = omega arith
-lay-count u (v ∷ vs) l = omega (arith, lay-count v vs (laid u v l), length-append (l .edges) (copy u v (l .edges) ∷ []))
 
 pub path-count : (path : List ℕ) (l : Laid) → length (layPath path l .edges) ≡ length (l .edges) + (length path - 1)
 unfolding layPath

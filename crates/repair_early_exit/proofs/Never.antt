@@ -24,11 +24,10 @@ use Rattle.repair_spec.specs.Distance.{zeroLength}
 use Rattle.repair_spec.specs.Retrace.{Path, found, error, shortestPath, Laid, layPath}
 use Rattle.repair_spec.proofs.Copies.{lay-old}
 use Rattle.repair_spec.specs.Pairing.{Pair, pair}
-use Rattle.repair_spec.specs.Repair.{Repair, Repairing, stopped, repaired, withSum, addSum, applyMatching, pairsOf, close, closeIf, drawn, fixParity}
+use Rattle.repair_spec.specs.Repair.{Repair, Repairing, stopped, repaired, withSum, addSum, retraced, applyMatching, pairsOf, close, closeIf, drawn, fixParity}
 use Rattle.repair_spec.proofs.Pairs.{ends}
 use Rattle.repair_spec.proofs.Repaired.{pairs-of, pair-of, odd-below}
 use Rattle.graph_spec.specs.Weights.{Searchable}
-use Rattle.repair_spec.proofs.Applied.{retraced}
 use Rattle.repair_early_exit.proofs.Laid.{retrace-searchable}
 use Rattle.repair_early_exit.proofs.Found.{path-found}
 
@@ -41,7 +40,7 @@ pub reached-one-piece : (n : ℕ) (es : List Edge) → allReached n es ≡ true 
 reached-one-piece n es h u v p q = reach-trans (reach-sym (all-reached n es h u p)) (all-reached n es h v q)
 
 -- copies leave the edges that were there
-retrace-one-piece : (n : ℕ) (path : List ℕ) (l : Laid) → OnePiece n (l .edges) → OnePiece n (layPath path l .edges)
+pub retrace-one-piece : (n : ℕ) (path : List ℕ) (l : Laid) → OnePiece n (l .edges) → OnePiece n (layPath path l .edges)
 unfolding layPath
 retrace-one-piece n [] l h u v p q = h u v p q
 retrace-one-piece n (x ∷ xs) l h u v p q = reach-more (λ y z j. lay-old x xs l y z j) (h u v p q)

@@ -1,11 +1,10 @@
--- The rounds of `dijkstra` that are left once t is taken change no distance that the way back from t reads. Code that makes the rounds of the definition, and stops,
--- keeps `Standing`: what is left to do, from here, gives the distances.
+-- What the rounds of `dijkstra` keep: sizes, that no distance is negative, and that no node that is done is farther than one that is not. Assumes nothing.
 use mathlib.Core.Path.{_≡_, refl, sym, ap, _∙_}
 use mathlib.Core.Logic.{_⊎_, inl, inr}
 use mathlib.Core.List.{List}
 use mathlib.Core.Bool.{Bool, true, false, true≢false, false≢true}
 use Prim.Native.Nat.{ℕ, zero, suc, _+_, _≤_, _<_}
-use native.Mathlib.Nat.{le-refl, le-trans, le-of-lt, lt-of-not-le}
+use native.Mathlib.Nat.{le-refl, le-trans}
 use native.Mathlib.Decide.{decLe}
 use native.Mathlib.Omega.{arith}
 use lib.ListN.{length, set, replicate, length-set, length-replicate, List·getD-eq-default}
@@ -20,8 +19,6 @@ use Rattle.repair_spec.specs.Relax.{keyAt, AllNonneg}
 use Rattle.repair_spec.proofs.Relax.{Improved, still-nonneg, Next, next-nonneg, relaxAll-is}
 use Rattle.repair_spec.proofs.Nearest.{Done, Open, Picked, pick-is}
 use Rattle.graph_spec.specs.Weights.{Weights}
-use Rattle.repair_early_exit.proofs.WayBack.{Serves}
-use Rattle.repair_early_exit.proofs.Stopped.{Ahead}
 
 -- no node that is done is farther than one that is not
 pub record Ordered (ds : List Float) (done : List Bool) : Type 0 where
@@ -72,17 +69,6 @@ module _ (ds : List Float) (done : List Bool) (O : Ordered ds done) where
     | inr q ↦ rw (q .0) (O .order v (taken ds done .node) h (q .1))
   ]
 
-  -- where t is taken, or no node is, no node that is not done is nearer than t
-  pub taken-ahead : (t : ℕ) → (taken ds done .node ≡ t) ⊎ (length ds ≤ taken ds done .node) → Ahead t ds done
-  taken-ahead t h v o = le-trans (below h) (taken-least v o)
-    where
-      top : taken ds done .distance ≡ infinity → keyAt ds t ≤ key binary64 (taken ds done .distance)
-      top e = rw e (key-top binary64 (distanceAt ds t) (O .nonneg t))
-
-      below : (taken ds done .node ≡ t) ⊎ (length ds ≤ taken ds done .node) → keyAt ds t ≤ key binary64 (taken ds done .distance)
-      below (inl i) = elim taken-node [ inl e ↦ top e | inr q ↦ rw (q .0, i) (le-refl _) ]
-      below (inr l) = elim taken-node [ inl e ↦ top e | inr q ↦ top (q .0 ∙ beyond ds (taken ds done .node) l) ]
-
   -- ---- a round
   module _ (es : List Edge) (weights : Weights es) where
     pub improved : Improved (Next (taken ds done .node) (taken ds done .distance) es) ds (nextDistances es ds done)
@@ -115,30 +101,6 @@ module _ (ds : List Float) (done : List Bool) (O : Ordered ds done) where
           order = λ v w p q. rw (stays v (near v p)) (le-trans (near v p) (no-nearer w (taken-least w (was-open w q))));
         }
 
-    -- ---- while no node that is not done is nearer than t
-    module _ (t : ℕ) (ahead : Ahead t ds done) where
-      within : keyAt ds t ≤ key binary64 (taken ds done .distance)
-      within = elim taken-node [ inl e ↦ rw e (key-top binary64 (distanceAt ds t) (O .nonneg t)) | inr q ↦ rw (q .0) (ahead (taken ds done .node) (q .1)) ]
-
-      still-ahead : Ahead t (nextDistances es ds done) (nextDone ds done)
-      still-ahead v o = rw (stays t within) (le-trans within (no-nearer v (taken-least v (was-open v o))))
-
-      -- what serves for the list after the round serves for the list before it
-      serves-before : (last : List Float) → Serves t last (nextDistances es ds done) → Serves t last ds
-      serves-before last S = record { goal = goal; each = λ v. elim (decLe (keyAt ds v) (key binary64 (taken ds done .distance))) [ yes h ↦ kept v h | no h ↦ far v (le-of-lt (lt-of-not-le h)) ] }
-        where
-          goal : distanceAt ds t ≡ distanceAt last t
-          goal = sym (stays t within) ∙ S .goal
-
-          kept : (v : ℕ) → keyAt ds v ≤ key binary64 (taken ds done .distance) → (distanceAt ds v ≡ distanceAt last v) ⊎ ((keyAt last t ≤ keyAt last v) × (keyAt last t ≤ keyAt ds v))
-          kept v h = rw (← stays v h) (S .each v)
-
-          far : (v : ℕ) → key binary64 (taken ds done .distance) ≤ keyAt ds v → (distanceAt ds v ≡ distanceAt last v) ⊎ ((keyAt last t ≤ keyAt last v) × (keyAt last t ≤ keyAt ds v))
-          far v h = elim (S .each v) [
-            | inl e ↦ inr (rw (← goal, ← e) (le-trans within (no-nearer v h)), rw (← goal) (le-trans within h))
-            | inr m ↦ inr (m .0, rw (← goal) (le-trans within h))
-          ]
-
 -- however many rounds are left
 pub rounds-length : (k : ℕ) (es : List Edge) → Weights es → (ds : List Float) (done : List Bool) → Ordered ds done → length (dijkstra k es ds done) ≡ length ds
 unfolding dijkstra
@@ -149,12 +111,6 @@ pub rounds-nonneg : (k : ℕ) (es : List Edge) → Weights es → (ds : List Flo
 unfolding dijkstra
 rounds-nonneg zero es weights ds done O = O .nonneg
 rounds-nonneg (suc k) es weights ds done O = rounds-nonneg k es weights _ _ (round-ordered ds done O es weights)
-
-pub rounds-serve : (k : ℕ) (es : List Edge) → Weights es → (ds : List Float) (done : List Bool) → Ordered ds done → (t : ℕ) → Ahead t ds done → Serves t (dijkstra k es ds done) ds
-unfolding dijkstra
-rounds-serve zero es weights ds done O t ahead = record { goal = refl; each = λ v. inl refl }
-rounds-serve (suc k) es weights ds done O t ahead =
-    serves-before ds done O es weights t ahead _ (rounds-serve k es weights _ _ (round-ordered ds done O es weights) t (still-ahead ds done O es weights t ahead))
 
 -- ---- a search that makes the rounds of the definition, with k of them left
 pub record Standing (n : ℕ) (es : List Edge) (s k : ℕ) (ds : List Float) (done : List Bool) : Type 0 where
@@ -178,17 +134,6 @@ standing-start n es s =
       };
       rest = refl;
     }
-
-pub standing-next : (n : ℕ) (es : List Edge) → Weights es → (s k : ℕ) (ds : List Float) (done : List Bool) → Standing n es s (suc k) ds done
-    → Standing n es s k (nextDistances es ds done) (nextDone ds done)
-unfolding dijkstra
-standing-next n es weights s k ds done S =
-    let O = S .ordered in
-    record { nodes = improved ds done O es weights .same ∙ S .nodes; ordered = round-ordered ds done O es weights; rest = S .rest }
-
-pub standing-serves : (n : ℕ) (es : List Edge) → Weights es → (s k : ℕ) (ds : List Float) (done : List Bool) → Standing n es s k ds done → (t : ℕ) → Ahead t ds done
-    → Serves t (distances n es s) ds
-standing-serves n es weights s k ds done S t ahead = rw (← S .rest) (rounds-serve k es weights ds done (S .ordered) t ahead)
 
 pub distances-length : (n : ℕ) (es : List Edge) → Weights es → (s : ℕ) → length (distances n es s) ≡ n
 distances-length n es weights s =

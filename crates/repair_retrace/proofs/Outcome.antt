@@ -11,8 +11,7 @@ use Rattle.limits.specs.Limits.{refusedPath}
 use Rattle.graph_spec.specs.Graph.{Edge}
 use Rattle.repair_spec.specs.Retrace.{Path, found, error, shortestPath, layPath}
 use Rattle.repair_spec.specs.Pairing.{Pair}
-use Rattle.repair_spec.specs.Repair.{Repair, Repairing, stopped, applyMatching}
-use Rattle.repair_spec.proofs.Applied.{retraced}
+use Rattle.repair_spec.specs.Repair.{Repair, Repairing, stopped, retraced, applyMatching}
 use Rattle.repair_early_exit.proofs.Laid.{counted, apply-counted}
 use Rattle.repair_copies.specs.Laying.{laidOf}
 use Rattle.repair_retrace.specs.Outcome.{Outcome, refused, done, outcome, under}

@@ -1,5 +1,5 @@
 -- Retraces laid one after the other: the graph with a copy along each of their steps, in which only the nodes of the pairs have changed parity.
-use Prim.Native.Nat.{ℕ, _+_, _%_, _≤_, _<_}
+use Prim.Native.Nat.{ℕ, _+_, _-_, _%_, _≤_, _<_}
 use native.Mathlib.Omega.{arith}
 use mathlib.Core.Path.{_≡_, refl, sym, subst}
 use mathlib.Core.Logic.{_⊎_, inl, inr}
@@ -20,9 +20,9 @@ use Rattle.graph_spec.proofs.Connected.{joins-inside}
 use Rattle.graph_spec.proofs.Occurs.{count}
 use Rattle.repair_spec.specs.Retrace.{Path, found, error, shortestPath, Laid, lay, layPath}
 use Rattle.repair_spec.proofs.Along.{shortest-along}
-use Rattle.repair_spec.proofs.Copies.{lay-joining, lay-degree, lay-parity, lay-drawn, lay-old, lay-inside}
+use Rattle.repair_spec.proofs.Copies.{lay-count, lay-joining, lay-degree, lay-parity, lay-drawn, lay-old, lay-inside}
 use Rattle.repair_spec.specs.Pairing.{Pair, pair}
-use Rattle.repair_spec.specs.Repair.{Repair, stopped, repaired, applyMatching}
+use Rattle.repair_spec.specs.Repair.{Repair, stopped, repaired, retraced, applyMatching}
 use Rattle.repair_spec.proofs.Pairs.{ends}
 
 -- ---- copies along a list of ways
@@ -32,6 +32,8 @@ pub record WithCopies (most n : ℕ) (es fs : List Edge) (ways : List (List ℕ)
   -- copies are counted from the ways
   pub joining-is : (u v : ℕ) → joining u v fs ≡ joining u v es + sumOver (λ (way : List ℕ). lineSum (joint u v) way) ways
   pub degree-is : (v : ℕ) → degree fs v ≡ degree es v + sumOver (λ (way : List ℕ). lineSum (λ (a b : ℕ). hit a v + hit b v) way) ways
+  -- one edge more for each step of each way
+  pub length-is : length fs ≡ length es + sumOver (λ (way : List ℕ). length way - 1) ways
   -- no copy lies where nothing was drawn, and nothing drawn is lost
   pub on-drawn : (u v : ℕ) → Joined fs u v → Joined es u v
   pub old : (u v : ℕ) → Joined es u v → Joined fs u v
@@ -45,6 +47,7 @@ unfolding sumOver
 nothing-copied most n es h = record {
   joining-is = λ u v. omega arith;
   degree-is = λ v. omega arith;
+  length-is = omega arith;
   on-drawn = λ u v j. j;
   old = λ u v j. j;
   inside = h;
@@ -68,6 +71,7 @@ one-more : (most n : ℕ) (es : List Edge) (ways : List (List ℕ)) (u : ℕ) (v
 one-more most n es ways u vs t l below w fits c = record {
   joining-is = λ x y. omega (arith, c .joining-is x y, lay-joining u vs l x y, sum-snoc (λ (way : List ℕ). lineSum (joint x y) way) ways (u ∷ vs));
   degree-is = λ v. omega (arith, c .degree-is v, lay-degree u vs l v, sum-snoc (λ (way : List ℕ). lineSum (λ (a b : ℕ). hit a v + hit b v) way) ways (u ∷ vs));
+  length-is = omega (arith, c .length-is, lay-count u vs l, sum-snoc (λ (way : List ℕ). length way - 1) ways (u ∷ vs));
   on-drawn = λ x y j. c .on-drawn x y (lay-drawn u vs l t w x y j);
   old = λ x y j. lay-old u vs l x y (c .old x y j);
   inside = lay-inside u vs l t w n (c .inside);
@@ -81,12 +85,6 @@ one-more most n es ways u vs t l below w fits c = record {
 pub record Applied (most n : ℕ) (es : List Edge) (ps : List Pair) (r r' : Repair) : Type 0 where
   pub copied : WithCopies most n es (r' .edges) (r' .retraces)
   pub flips : (v : ℕ) → (degree (r' .edges) v + degree (r .edges) v + count v (ends ps)) % 2 ≡ 0
-
--- what one retrace more makes of r
-abbrev pub retraced : List ℕ → Repair → Repair
-retraced path r =
-    let l = layPath path (record { edges = r .edges; sum = r .sum }) in
-    record { edges = l .edges; retraces = r .retraces ++ (path ∷ []); sum = l .sum }
 
 -- of one pair
 pair-applied : (most n : ℕ) (es : List Edge) (s t : ℕ) (path : List ℕ) (r : Repair) → s < n → shortestPath n (r .edges) s t ≡ found path

@@ -7,6 +7,7 @@ use Prim.Native.Nat.{ℕ, _+_, _%_}
 use native.Mathlib.Nat.{add-zero}
 use native.Mathlib.Omega.{arith}
 use lib.Dec.{eqb}
+use lib.ListN.{length, length-append}
 use lib.Ieee.{binary64, add}
 use borrow.Author.Tests.{eqb-true, eqb-false}
 use Rattle.sums.specs.Key.{Nonneg}
@@ -67,6 +68,12 @@ lay-keeps u (v ∷ vs) l e i = lay-keeps v vs (laid u v l) e (in-left e (l .edge
 
 pub lay-old : (u : ℕ) (vs : List ℕ) (l : Laid) (x y : ℕ) → Joined (l .edges) x y → Joined (lay u vs l .edges) x y
 lay-old u vs l x y k = joined-more (lay-keeps u vs l) k
+
+-- one edge more for each step
+pub lay-count : (u : ℕ) (vs : List ℕ) (l : Laid) → length (lay u vs l .edges) ≡ length (l .edges) + length vs
+unfolding lay
+lay-count u [] l = omega arith
+lay-count u (v ∷ vs) l = omega (arith, lay-count v vs (laid u v l), length-append (l .edges) (copy u v (l .edges) ∷ []))
 
 -- ---- a copy is one of an edge that was there
 

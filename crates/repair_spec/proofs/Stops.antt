@@ -1,7 +1,7 @@
 -- Repair stops with no other number than 12 and the one given for the limit of edges.
 use mathlib.Core.Path.{_≡_, refl}
 use mathlib.Core.Logic.{_⊎_, inl, inr}
-use mathlib.Core.List.{List, [], _∷_, _++_}
+use mathlib.Core.List.{List, [], _∷_}
 use mathlib.Core.Bool.{Bool, true, false}
 use Prim.Native.Nat.{ℕ}
 use lib.ListN.{length, getD}
@@ -12,9 +12,9 @@ use Rattle.drawing_spec.proofs.Members.{either}
 use Rattle.graph_spec.specs.Graph.{Graph}
 use Rattle.graph_spec.specs.Degree.{oddNodes}
 use Rattle.repair_spec.specs.Distance.{zeroLength}
-use Rattle.repair_spec.specs.Retrace.{Path, found, error, shortestPath, Laid, layPath}
+use Rattle.repair_spec.specs.Retrace.{Path, found, error, shortestPath}
 use Rattle.repair_spec.specs.Pairing.{Pair, pair}
-use Rattle.repair_spec.specs.Repair.{Repair, Repairing, stopped, repaired, withSum, addSum, applyMatching, pairsOf, close, closeIf, drawn, fixParity}
+use Rattle.repair_spec.specs.Repair.{Repair, Repairing, stopped, repaired, withSum, addSum, retraced, applyMatching, pairsOf, close, closeIf, drawn, fixParity}
 
 -- the number of a stop, where there is one, is 12 or `number`
 abbrev Known : ℕ → Repairing → Type 0
@@ -26,18 +26,13 @@ unfolding applyMatching
 apply-known most number n [] r = tt
 apply-known most number n (p ∷ ps) r = go (shortestPath n (r .edges) (p .from) (p .to)) (λ q. apply-known most number n ps q)
   where
-    next : List ℕ → Laid → Repair
-    next path l = record { edges = l .edges; retraces = r .retraces ++ (path ∷ []); sum = l .sum }
-
     go : (x : Path) → ((q : Repair) → Known number (applyMatching most number n ps q))
         → Known number (elim x [
           | error ↦ stopped refusedPath
-          | found path ↦ let l = layPath path (record { edges = r .edges; sum = r .sum }) in elim (leb (length (l .edges)) most) [ false ↦ stopped number | true ↦ applyMatching most number n ps (next path l) ]
+          | found path ↦ elim (leb (length (retraced path r .edges)) most) [ false ↦ stopped number | true ↦ applyMatching most number n ps (retraced path r) ]
         ])
     go error h = inl refl
-    go (found path) h =
-        let l = layPath path (record { edges = r .edges; sum = r .sum }) in
-        either (Known number) _ _ (h (next path l)) (inr refl) (leb (length (l .edges)) most)
+    go (found path) h = either (Known number) _ _ (h (retraced path r)) (inr refl) (leb (length (retraced path r .edges)) most)
 
 added-known : (number : ℕ) (r : Repair) (x : Repairing) → Known number x → Known number (addSum (r .sum) x)
 added-known number r (stopped k) h = h

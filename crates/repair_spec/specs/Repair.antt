@@ -24,6 +24,12 @@ pub data Repairing : Type 0 where
   stopped : ℕ → Repairing
   repaired : Repair → Repairing
 
+-- r with the retrace along a path
+abbrev pub retraced : List ℕ → Repair → Repair
+retraced path r =
+    let l = layPath path (record { edges = r .edges; sum = r .sum }) in
+    record { edges = l .edges; retraces = r .retraces ++ (path ∷ []); sum = l .sum }
+
 -- one retrace after the other, each on the graph as it then is, of n nodes: 12 where there is no path, `number` where a retrace takes the graph past `most` edges
 unfoldable pub applyMatching : ℕ → ℕ → ℕ → List Pair → Repair → Repairing
 unfolding shortestPath layPath
@@ -31,12 +37,7 @@ applyMatching most number n [] r = repaired r
 applyMatching most number n (p ∷ ps) r =
     elim (shortestPath n (r .edges) (p .from) (p .to)) [
       | error ↦ stopped refusedPath
-      | found path ↦
-          let l = layPath path (record { edges = r .edges; sum = r .sum }) in
-          elim (leb (length (l .edges)) most) [
-            | false ↦ stopped number
-            | true ↦ applyMatching most number n ps (record { edges = l .edges; retraces = r .retraces ++ (path ∷ []); sum = l .sum })
-          ]
+      | found path ↦ elim (leb (length (retraced path r .edges)) most) [ false ↦ stopped number | true ↦ applyMatching most number n ps (retraced path r) ]
     ]
 
 -- the least distances from some nodes, worked out once
