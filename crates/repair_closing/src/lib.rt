@@ -7,6 +7,7 @@ ghost use Rattle.graph_arrays.specs.Arrays.{edgesIn, EdgesHeld};
 ghost use Rattle.repair_spec.specs.Distance.{zeroLength};
 ghost use Rattle.repair_spec.specs.PairsIn.{pairsIn};
 ghost use Rattle.repair_spec.specs.Repair.{repaired, applyMatching, closeIf};
+ghost use Rattle.repair_search.specs.Touched.{Unreached};
 ghost use Rattle.repair_retrace.specs.Outcome.{under};
 ghost use Rattle.repair_retrace.specs.Answer.{Answers};
 use limits::ARC_ROOM;
@@ -17,19 +18,22 @@ use repair_retrace::Applied;
 
 // The two nodes that are left odd are joined, if `closing`. This retrace is summed by itself and then added
 // to `sum`. What the arrays hold after a refusal is not said.
-pub fn close(
+fn close(
     ends: &mut [u16; ARC_ROOM],
     weights: &mut [f64; EDGE_ROOM],
     next: &mut [u16; ARC_ROOM],
     heads: &mut [u16; 2 * MOST_NODES],
     n: usize,
     m: usize,
+    dist: &mut [f64; MOST_NODES],
+    tree: &mut [f64; 2 * MOST_NODES],
+    touched: &mut [u16; MOST_NODES],
     sum: f64,
     closing: bool,
     most: usize,
     number: u8,
 ) -> Applied
-    requires { ⌜ most ≤ mostEdges ⌝ }
+    requires { ⌜ (most ≤ mostEdges) × Unreached n (now dist) (now tree) (now touched) ⌝ }
     requires { ⌜ EdgesHeld n m (adjacency (now ends) (now weights) (now next) (now heads)) ⌝ }
     ensures { λ r. ⌜ Answers n (closeIf closing most number n (repaired (under (edgesIn m (adjacency (now (ends .entry)) (now (weights .entry)) (now (next .entry)) (now (heads .entry)))) sum))) r (adjacency (now (ends .exit)) (now (weights .exit)) (now (next .exit)) (now (heads .exit))) ⌝ }
 {
@@ -50,6 +54,9 @@ pub fn close(
         heads,
         n,
         m,
+        dist,
+        tree,
+        touched,
         from,
         to,
         0.0,
@@ -62,7 +69,7 @@ pub fn close(
     Applied::Repaired(sum + x, k)
 }
 
-// The retraces of the pairs, one after the other, and then `close`. What the arrays hold after a refusal is not said.
+// The retraces of the pairs, one after the other, and then `close`: all searches in the same arrays. What the arrays hold after a refusal is not said.
 pub fn retrace_pairs(
     ends: &mut [u16; ARC_ROOM],
     weights: &mut [f64; EDGE_ROOM],
@@ -81,6 +88,10 @@ pub fn retrace_pairs(
     requires { ⌜ EdgesHeld n m (adjacency (now ends) (now weights) (now next) (now heads)) ⌝ }
     ensures { λ r. ⌜ Answers n (closeIf closing most number n (applyMatching most number n (pairsIn (now (firsts .entry)) (now (seconds .entry)) 0 pairs) (under (edgesIn m (adjacency (now (ends .entry)) (now (weights .entry)) (now (next .entry)) (now (heads .entry)))) zeroLength))) r (adjacency (now (ends .exit)) (now (weights .exit)) (now (next .exit)) (now (heads .exit))) ⌝ }
 {
+    let infinity = repair_tournament::infinity();
+    let mut dist = [infinity; MOST_NODES];
+    let mut tree = [infinity; 2 * MOST_NODES];
+    let mut touched = [0; MOST_NODES];
     let laid = repair_retrace::apply_matching(
         ends,
         weights,
@@ -88,6 +99,9 @@ pub fn retrace_pairs(
         heads,
         n,
         m,
+        &mut dist,
+        &mut tree,
+        &mut touched,
         firsts,
         seconds,
         pairs,
@@ -105,6 +119,9 @@ pub fn retrace_pairs(
         heads,
         n,
         count,
+        &mut dist,
+        &mut tree,
+        &mut touched,
         sum,
         closing,
         most,

@@ -1,4 +1,4 @@
--- Lower bounds of the distances in each row of a working list, and what keeps them. Assumes nothing.
+-- Lower bounds of the distances in each row of a working list.
 use mathlib.Core.List.{List}
 use Prim.Native.Nat.{ℕ, _≤_, _<_}
 use lib.ListN.{getD}

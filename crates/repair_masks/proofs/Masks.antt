@@ -1,7 +1,9 @@
 -- Laws of specs/Masks.
 use Prim.Native.Nat.{ℕ, zero, suc, _+_, _-_, _*_, _/_, _%_, _^_, _≤_, _<_}
+use native.Mathlib.Nat.{eq-zero-or-pos}
 use native.Mathlib.Omega.{arith}
 use mathlib.Core.Path.{_≡_, refl, sym, ap, _∙_, subst}
+use mathlib.Core.Logic.{inl, inr}
 use mathlib.Core.List.{List, [], _∷_}
 use mathlib.Core.Bool.{Bool, true, false}
 use lib.ListN.{length}
@@ -254,34 +256,37 @@ ones-without (suc j) m b =
     let low = bit-power j (m / 2) b in
     omega (arith, ones-step m, ones-step (m - 2 ^ suc j), rest-mod j m low, ap ones (rest-half j m low), ones-without j (m / 2) b)
 
--- places more below the lowest: each is one more, but the lowest comes down by more than half of that
-pub ones-lowest : (w m k : ℕ) → k < 2 ^ lowest w m → ones (m + k) + 2 * lowest w (m + k) ≤ ones m + 2 * lowest w m
+le-zero : (e : ℕ) → e ≤ 0 → e ≡ 0
+le-zero e h = omega arith
+
+-- Places more below e, which is no higher than the lowest: there are at most e less the lowest of them, which counts twice.
+pub ones-lowest : (w m k e : ℕ) → e ≤ lowest w m → 0 < k → k < 2 ^ e → ones (m + k) + 2 * lowest w (m + k) < ones m + 2 * e
 unfolding trailingZeros
-ones-lowest zero m k h = let e : m + k ≡ m = omega arith in omega (arith, ap ones e)
-ones-lowest (suc w) m k h = go (parity m) (parity k) h (λ g. ones-lowest w (m / 2) (k / 2) g)
+ones-lowest zero m k e l some h = absurd (omega (arith, ap (λ (x : ℕ). 2 ^ x) (le-zero e l)))
+ones-lowest (suc w) m k zero l some h = absurd (omega arith)
+ones-lowest (suc w) m k (suc e) l some h = go (parity m) (parity k) l (λ a b c. ones-lowest w (m / 2) (k / 2) e a b c)
   where
     t : ℕ
     t = lowest w (m / 2)
 
-    go : Parity m → Parity k → k < 2 ^ under (m % 2) t
-        → (k / 2 < 2 ^ t → ones (m / 2 + k / 2) + 2 * lowest w (m / 2 + k / 2) ≤ ones (m / 2) + 2 * t)
-        → ones (m + k) + 2 * lowest (suc w) (m + k) ≤ ones m + 2 * under (m % 2) t
-    go (odd e) p g r =
-        let z : k < 2 ^ 0 = rw (under-odd (m % 2) t e) at g in
-        let s : m + k ≡ m = omega arith in
-        rw s (omega arith)
-    go (even e) (even f) g r =
-        let z : k < 2 ^ suc t = rw (under-even (m % 2) t e) at g in
+    go : Parity m → Parity k → suc e ≤ under (m % 2) t
+        → (e ≤ t → 0 < k / 2 → k / 2 < 2 ^ e → ones (m / 2 + k / 2) + 2 * lowest w (m / 2 + k / 2) < ones (m / 2) + 2 * e)
+        → ones (m + k) + 2 * lowest (suc w) (m + k) < ones m + 2 * suc e
+    go (odd f) p g r = absurd (omega (arith, under-odd (m % 2) t f))
+    go (even f) (even q) g r =
         let half : (m + k) / 2 ≡ m / 2 + k / 2 = omega arith in
-        let i = r (omega (arith, double t)) in
+        let i = r (omega (arith, under-even (m % 2) t f)) (omega arith) (omega (arith, double e)) in
         let a = under-even ((m + k) % 2) (lowest w ((m + k) / 2)) (omega arith) in
-        omega (arith, i, a, under-even (m % 2) t e, ones-step m, ones-step (m + k), ap ones half, ap (lowest w) half)
-    go (even e) (odd f) g r =
-        let z : k < 2 ^ suc t = rw (under-even (m % 2) t e) at g in
+        omega (arith, i, a, ones-step m, ones-step (m + k), ap ones half, ap (lowest w) half)
+    go (even f) (odd q) g r =
         let half : (m + k) / 2 ≡ m / 2 + k / 2 = omega arith in
-        let i = r (omega (arith, double t)) in
         let a = under-odd ((m + k) % 2) (lowest w ((m + k) / 2)) (omega arith) in
-        omega (arith, i, a, under-even (m % 2) t e, ones-step m, ones-step (m + k), ap ones half, ap (lowest w) half)
+        elim (eq-zero-or-pos (k / 2)) [
+          | inl z ↦ let same : m / 2 + k / 2 ≡ m / 2 = omega arith in omega (arith, a, ones-step m, ones-step (m + k), ap ones half, ap ones same)
+          | inr some' ↦
+              let i = r (omega (arith, under-even (m % 2) t f)) some' (omega (arith, double e)) in
+              omega (arith, i, a, ones-step m, ones-step (m + k), ap ones half)
+        ]
 
 -- a mask with an odd number of places has one
 pub ones-zero : ones 0 ≡ 0

@@ -1,5 +1,5 @@
 -- Laws of specs/Table.
-use Prim.Native.Nat.{ℕ, zero, suc, _+_, _-_, _%_, _^_, _≤_, _<_}
+use Prim.Native.Nat.{ℕ, zero, suc, _+_, _-_, _*_, _%_, _^_, _≤_, _<_}
 use native.Mathlib.Omega.{arith}
 use mathlib.Core.Path.{_≡_, refl, sym, ap, _∙_, subst}
 use mathlib.Core.List.{List, _∷_}
@@ -32,9 +32,9 @@ needed-rest n m j p h s e =
       lowest-rises 64 j (m - 2 ^ low m) s,
     )
 
--- where m is not asked for, none with places more below its lowest is
-pub needed-more : (n m k : ℕ) → k < 2 ^ low m → Needed n (m + k) → Needed n m
-needed-more n m k h e = omega (arith, ones-lowest 64 m k h)
+-- where m has so few places, none with places more below e is asked for
+pub needed-more : (n m k e : ℕ) → e ≤ low m → 0 < k → k < 2 ^ e → ones m + 2 * e + 2 ≤ n → Needed n (m + k) → ⊥
+needed-more n m k e l some h few w = omega (arith, ones-lowest 64 m k e l some h)
 
 -- no places at all
 pub needed-none : (n : ℕ) → n ≤ 64 → Needed n 0

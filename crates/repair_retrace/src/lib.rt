@@ -11,6 +11,7 @@ ghost use Rattle.repair_spec.specs.Retrace.{shortestPath};
 ghost use Rattle.repair_spec.specs.Pairing.{pair};
 ghost use Rattle.repair_spec.specs.PairsIn.{pairsIn};
 ghost use Rattle.repair_spec.specs.Repair.{applyMatching};
+ghost use Rattle.repair_search.specs.Touched.{Unreached};
 ghost use Rattle.repair_way_back.specs.Answer.{wayIn};
 ghost use Rattle.repair_retrace.specs.Outcome.{under};
 ghost use Rattle.repair_retrace.specs.Answer.{Answers};
@@ -28,7 +29,8 @@ pub enum Applied {
     Refused(u8),
 }
 
-// The shortest path from s to t, written into `path` as the way back writes it.
+// The shortest path from s to t, written into `path` as the way back writes it. The search is made in lent arrays, which
+// are then as they were.
 pub fn shortest_path(
     ends: &[u16; ARC_ROOM],
     weights: &[f64; EDGE_ROOM],
@@ -36,18 +38,34 @@ pub fn shortest_path(
     heads: &[u16; 2 * MOST_NODES],
     n: usize,
     m: usize,
+    dist: &mut [f64; MOST_NODES],
+    tree: &mut [f64; 2 * MOST_NODES],
+    touched: &mut [u16; MOST_NODES],
     path: &mut [u16; MOST_NODES],
     s: usize,
     t: usize,
 ) -> Way
-    requires { ⌜ (s < n) × (t < n) × (length (now path) ≡ mostNodes) ⌝ }
+    requires { ⌜ (s < n) × (t < n) × (length (now path) ≡ mostNodes) × Unreached n (now dist) (now tree) (now touched) ⌝ }
     requires { ⌜ EdgesHeld n m (adjacency (now ends) (now weights) (now next) (now heads)) ⌝ }
     ensures way { λ r. ⌜ wayIn (now (path .exit)) r ≡ shortestPath n (edgesIn m (adjacency (now (ends .entry)) (now (weights .entry)) (now (next .entry)) (now (heads .entry)))) s t ⌝ }
-    ensures long { λ _. ⌜ length (now (path .exit)) ≡ mostNodes ⌝ }
+    ensures kept { λ _. ⌜ (length (now (path .exit)) ≡ mostNodes) × Unreached n (now (dist .exit)) (now (tree .exit)) (now (touched .exit)) ⌝ }
 {
-    let found = repair_search::least_distances(ends, weights, next, heads, n, m, s, t);
-    let dist = found.at;
-    repair_way_back::way_back(ends, weights, next, heads, n, m, &dist, path, s, t)
+    let count = repair_search::search_from(
+        ends,
+        weights,
+        next,
+        heads,
+        n,
+        m,
+        dist,
+        tree,
+        touched,
+        s,
+        t,
+    );
+    let way = repair_way_back::way_back(ends, weights, next, heads, n, m, dist, path, s, t);
+    repair_search::clear(dist, tree, touched, n, count);
+    way
 }
 
 // One retrace, between the nodes `from` and `to`: its copies laid, of which each weight is added to `sum`. Refused with
@@ -60,18 +78,35 @@ pub fn apply_pair(
     heads: &mut [u16; 2 * MOST_NODES],
     n: usize,
     m: usize,
+    dist: &mut [f64; MOST_NODES],
+    tree: &mut [f64; 2 * MOST_NODES],
+    touched: &mut [u16; MOST_NODES],
     from: usize,
     to: usize,
     sum: f64,
     most: usize,
     number: u8,
 ) -> Applied
-    requires { ⌜ (from < n) × (to < n) × (most ≤ mostEdges) ⌝ }
+    requires { ⌜ (from < n) × (to < n) × (most ≤ mostEdges) × Unreached n (now dist) (now tree) (now touched) ⌝ }
     requires { ⌜ EdgesHeld n m (adjacency (now ends) (now weights) (now next) (now heads)) ⌝ }
-    ensures { λ r. ⌜ Answers n (applyMatching most number n (pair from to ∷ []) (under (edgesIn m (adjacency (now (ends .entry)) (now (weights .entry)) (now (next .entry)) (now (heads .entry)))) sum)) r (adjacency (now (ends .exit)) (now (weights .exit)) (now (next .exit)) (now (heads .exit))) ⌝ }
+    ensures answer { λ r. ⌜ Answers n (applyMatching most number n (pair from to ∷ []) (under (edgesIn m (adjacency (now (ends .entry)) (now (weights .entry)) (now (next .entry)) (now (heads .entry)))) sum)) r (adjacency (now (ends .exit)) (now (weights .exit)) (now (next .exit)) (now (heads .exit))) ⌝ }
+    ensures kept { λ _. ⌜ Unreached n (now (dist .exit)) (now (tree .exit)) (now (touched .exit)) ⌝ }
 {
     let mut path = [0; MOST_NODES];
-    let way = shortest_path(ends, weights, next, heads, n, m, &mut path, from, to);
+    let way = shortest_path(
+        ends,
+        weights,
+        next,
+        heads,
+        n,
+        m,
+        dist,
+        tree,
+        touched,
+        &mut path,
+        from,
+        to,
+    );
     let Way::Found(first) = way else {
         return Applied::Refused(REFUSED_PATH);
     };
@@ -92,6 +127,9 @@ pub fn apply_matching(
     heads: &mut [u16; 2 * MOST_NODES],
     n: usize,
     m: usize,
+    dist: &mut [f64; MOST_NODES],
+    tree: &mut [f64; 2 * MOST_NODES],
+    touched: &mut [u16; MOST_NODES],
     firsts: &[u16; MOST_PAIRS],
     seconds: &[u16; MOST_PAIRS],
     pairs: usize,
@@ -99,9 +137,10 @@ pub fn apply_matching(
     most: usize,
     number: u8,
 ) -> Applied
-    requires { ⌜ (most ≤ mostEdges) × (pairs ≤ mostPairs) × ((j : ℕ) → j < pairs → (getD (now firsts) j 0 < n) × (getD (now seconds) j 0 < n)) ⌝ }
+    requires { ⌜ (most ≤ mostEdges) × (pairs ≤ mostPairs) × Unreached n (now dist) (now tree) (now touched) × ((j : ℕ) → j < pairs → (getD (now firsts) j 0 < n) × (getD (now seconds) j 0 < n)) ⌝ }
     requires { ⌜ EdgesHeld n m (adjacency (now ends) (now weights) (now next) (now heads)) ⌝ }
-    ensures { λ r. ⌜ Answers n (applyMatching most number n (pairsIn (now (firsts .entry)) (now (seconds .entry)) 0 pairs) (under (edgesIn m (adjacency (now (ends .entry)) (now (weights .entry)) (now (next .entry)) (now (heads .entry)))) sum)) r (adjacency (now (ends .exit)) (now (weights .exit)) (now (next .exit)) (now (heads .exit))) ⌝ }
+    ensures answer { λ r. ⌜ Answers n (applyMatching most number n (pairsIn (now (firsts .entry)) (now (seconds .entry)) 0 pairs) (under (edgesIn m (adjacency (now (ends .entry)) (now (weights .entry)) (now (next .entry)) (now (heads .entry)))) sum)) r (adjacency (now (ends .exit)) (now (weights .exit)) (now (next .exit)) (now (heads .exit))) ⌝ }
+    ensures kept { λ _. ⌜ Unreached n (now (dist .exit)) (now (tree .exit)) (now (touched .exit)) ⌝ }
 {
     let mut total = sum;
     let mut count = m;
@@ -116,6 +155,9 @@ pub fn apply_matching(
             heads,
             n,
             count,
+            dist,
+            tree,
+            touched,
             from,
             to,
             total,

@@ -3,4 +3,5 @@ pub mod Along
 pub mod Arcs
 pub mod OfferLaws
 pub mod Relaxing
+pub mod Touched
 pub mod Search

@@ -3,13 +3,13 @@ use mathlib.Core.Path.{_≡_, refl, sym, ap, subst, _∙_}
 use mathlib.Core.Logic.{_⊎_, inl, inr}
 use mathlib.Core.List.{List}
 use mathlib.Core.Bool.{Bool, true, false, true≢false, false≢true}
-use Prim.Native.Nat.{ℕ, suc, _+_, _-_, _*_, _≤_, _<_}
+use Prim.Native.Nat.{ℕ, suc, _-_, _≤_, _<_}
 use native.Mathlib.Nat.{le-refl, le-trans, le-of-eq, le-of-lt, le-antisymm, not-le-of-lt, lt-of-not-le}
 use native.Mathlib.Decide.{decLe}
 use native.Mathlib.Omega.{arith}
-use lib.ListN.{getD, set, replicate, length-set, length-replicate, getD-replicate, List·getD-eq-default}
+use lib.ListN.{getD, set, replicate, length-set, length-replicate, List·getD-eq-default}
 use lib.Seq.{getD-set-same, getD-set-other}
-use lib.Ieee.{Float, nan, binary64, lt}
+use lib.Ieee.{Float, binary64, lt}
 use Rattle.limits.specs.Limits.{mostNodes}
 use Rattle.sums.specs.Key.{Nonneg, key}
 use Rattle.sums.proofs.KeyLaws.{key-top}
@@ -22,7 +22,7 @@ use Rattle.graph_spec.specs.Weights.{Weights}
 use Rattle.graph_adjacency.specs.Lists.{Adjacency}
 use Rattle.graph_arrays.specs.Arrays.{edgesIn, EdgesHeld}
 use Rattle.repair_tournament.specs.Tree.{at, value, Tree, Stored}
-use Rattle.repair_tournament.proofs.Tree.{least, tree-none}
+use Rattle.repair_tournament.proofs.Tree.{least}
 use Rattle.repair_spec.specs.Distance.{infinity, zeroLength, distanceAt, distances}
 use Rattle.repair_spec.specs.Cost.{Way, here, step, Least}
 use Rattle.repair_spec.proofs.Cost.{least-unique}
@@ -35,6 +35,7 @@ use Rattle.repair_spec.proofs.Least.{least-distance}
 use Rattle.repair_search.proofs.Arcs.{relaxed}
 use Rattle.repair_search.specs.Offer.{Held}
 use Rattle.repair_search.specs.Relaxing.{Relaxed}
+use Rattle.repair_search.specs.Touched.{Listed, Touched, Unreached}
 use Rattle.repair_search.specs.Search.{Found}
 
 -- a node that is not done has its distance as its value, one that is done has none
@@ -56,21 +57,21 @@ way-inside n es s i h here = h
 way-inside n es s i h (step {u = u} {v} w e p j) = joins-inside n es i e u v p j
 
 -- before the first round only s has a value
-first-values : (n s N M : ℕ) (t : List Float) → s < N → Stored n s zeroLength (replicate M infinity) t → (w : ℕ) → n + w < M
-    → value n t w ≡ distanceAt (set (replicate N infinity) s zeroLength) w
-first-values n s N M t h S w l = elim (decLe w s) [
+first-values : (n s N : ℕ) (t t' : List Float) → s < N → ((w : ℕ) → w < n → value n t w ≡ infinity) → Stored n s zeroLength t t' → (w : ℕ) → w < n
+    → value n t' w ≡ distanceAt (set (replicate N infinity) s zeroLength) w
+first-values n s N t t' h none S w l = elim (decLe w s) [
   | yes a ↦ elim (decLe s w) [
     | yes b ↦
         let e : s ≡ w = le-antisymm b a in
-        subst (λ (x : ℕ). value n t x ≡ distanceAt (set (replicate N infinity) s zeroLength) x) e
+        subst (λ (x : ℕ). value n t' x ≡ distanceAt (set (replicate N infinity) s zeroLength) x) e
         (S .new ∙ sym (getD-set-same (replicate N infinity) s zeroLength infinity (subst (λ (k : ℕ). s < k) (sym (length-replicate N infinity)) h)))
     | no b ↦ other (omega arith)
   ]
   | no a ↦ other (omega arith)
 ]
   where
-    other : (w ≡ s → ⊥) → value n t w ≡ distanceAt (set (replicate N infinity) s zeroLength) w
-    other q = S .others w q ∙ getD-replicate M (n + w) infinity nan l ∙ sym (getD-set-other (replicate N infinity) s w zeroLength infinity q ∙ getD-same N w infinity)
+    other : (w ≡ s → ⊥) → value n t' w ≡ distanceAt (set (replicate N infinity) s zeroLength) w
+    other q = S .others w q ∙ none w l ∙ sym (getD-set-other (replicate N infinity) s w zeroLength infinity q ∙ getD-same N w infinity)
 
 -- edges between n nodes, none of negative weight
 module _ (n : ℕ) (few : n ≤ mostNodes) (es : List Edge) (inside : Inside n es) (weights : Weights es) where
@@ -81,11 +82,11 @@ module _ (n : ℕ) (few : n ≤ mostNodes) (es : List Edge) (inside : Inside n e
     room : Inside mostNodes es
     room = inside-room n es few inside
 
-    pub searching-begin : (t : List Float) → Stored n s zeroLength (replicate (2 * mostNodes) infinity) t → Searching n es s mostNodes (set (replicate mostNodes infinity) s zeroLength) t
-    searching-begin t S = record {
+    pub searching-begin : (t t' : List Float) → ((w : ℕ) → w < n → value n t w ≡ infinity) → Stored n s zeroLength t t' → Searching n es s mostNodes (set (replicate mostNodes infinity) s zeroLength) t'
+    searching-begin t t' none S = record {
       done = replicate mostNodes false;
       run = begin;
-      queue = λ w l. (λ o. first-values n s mostNodes (2 * mostNodes) t in-room S w (omega arith), λ h. absurd (false≢true (sym (getD-same mostNodes w false) ∙ h)));
+      queue = λ w l. (λ o. first-values n s mostNodes t t' in-room none S w l, λ h. absurd (false≢true (sym (getD-same mostNodes w false) ∙ h)));
     }
 
     module _ (left : ℕ) (ds t : List Float) (H : Held n ds t) (S : Searching n es s left ds t) where
@@ -184,10 +185,6 @@ pub record Progress (n : ℕ) (es : List Edge) (s left : ℕ) (ds t : List Float
 start-nonneg : (N s : ℕ) → AllNonneg (set (replicate N infinity) s zeroLength)
 start-nonneg N s v = elim (set-cases (replicate N infinity) s zeroLength infinity v) [ inl p ↦ rw (p .1) (zero-nonneg binary64) | inr q ↦ rw (q ∙ getD-same N v infinity) (inf-nonneg binary64) ]
 
--- no value stored yet
-pub far-tree : (n : ℕ) (far : Float) → far ≡ infinity → n ≤ mostNodes → Tree n (replicate (2 * mostNodes) far)
-far-tree n far e few = subst (λ (x : Float). Tree n (replicate (2 * mostNodes) x)) (sym e) (tree-none n few)
-
 -- the tournament with a value taken out goes with the same distances
 held-with : (n : ℕ) (ds t : List Float) → Held n ds t → (t' : List Float) → Tree n t' → Held n ds t'
 held-with n ds t H t' T = record { tree = T; long = H .long; nonneg = H .nonneg }
@@ -205,10 +202,9 @@ module _ (n m : ℕ) (a : Adjacency) (H : EdgesHeld n m a) (s : ℕ) (isNode : s
   abbrev weights : Weights es
   weights = H .searchable .weights
 
-  pub progress-begin : (t : List Float) → Stored n s zeroLength (replicate (2 * mostNodes) far) t → Progress n es s mostNodes (set (replicate mostNodes far) s zeroLength) t
-  progress-begin t S =
-      let stored : Stored n s zeroLength (replicate (2 * mostNodes) infinity) t = subst (λ (x : Float). Stored n s zeroLength (replicate (2 * mostNodes) x) t) isFar S in
-      subst (λ (x : Float). Progress n es s mostNodes (set (replicate mostNodes x) s zeroLength) t) (sym isFar)
+  pub progress-begin : (ds t : List Float) (touched : List ℕ) → Unreached n ds t touched → (t' : List Float) → Stored n s zeroLength t t' → Progress n es s mostNodes (set ds s zeroLength) t'
+  progress-begin ds t touched U t' S =
+      subst (λ (x : List Float). Progress n es s mostNodes (set x s zeroLength) t') (sym (U .none))
       (record {
         most = le-refl mostNodes;
         held = record {
@@ -216,8 +212,21 @@ module _ (n m : ℕ) (a : Adjacency) (H : EdgesHeld n m a) (s : ℕ) (isNode : s
           long = length-set (replicate mostNodes infinity) s zeroLength ∙ length-replicate mostNodes infinity;
           nonneg = start-nonneg mostNodes s;
         };
-        search = searching-begin n few es inside weights s isNode t stored;
+        search = searching-begin n few es inside weights s isNode t t' (U .values) S;
       })
+
+  -- a node that was not reached has no value
+  pub progress-touched : (left : ℕ) (ds t : List Float) → Progress n es s left ds t → (touched : List ℕ) (count : ℕ) → Listed n ds touched count → Touched n ds t touched count
+  progress-touched left ds t P touched count L = record {
+    listed = L;
+    long = P .held .long;
+    tree = P .held .tree;
+    values = λ w h e. go w h e (getD (P .search .done) w false) refl;
+  }
+    where
+      go : (w : ℕ) → w < n → distanceAt ds w ≡ infinity → (b : Bool) → getD (P .search .done) w false ≡ b → value n t w ≡ infinity
+      go w h e true d = P .search .queue w h .1 d
+      go w h e false d = P .search .queue w h .0 d ∙ e
 
   module _ (left : ℕ) (ds t : List Float) (P : Progress n es s left ds t) (goal : ℕ) (limit : Float) (isLimit : limit ≡ distanceAt ds goal) where
     limit-nonneg : Nonneg binary64 limit

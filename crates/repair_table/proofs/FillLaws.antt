@@ -8,7 +8,7 @@ use lib.ListN.{length, getD, set, length-set}
 use lib.Seq.{getD-set-same, getD-set-other}
 use lib.Dec.{eqb, ltb}
 use lib.Count.{ones}
-use lib.Pow.{pow-pos}
+use lib.Pow.{pow-pos, pow-mono}
 use lib.Ieee.{Float, nan, binary64, ofBits}
 use borrow.Author.Tests.{eq-eqb, eqb-true, eqb-false, lt-ltb, le-ltb, ltb-true, ltb-false}
 use Rattle.sums.proofs.Sum.{zero-bits}
@@ -122,15 +122,14 @@ module _ (n m : ℕ) (ws₀ ws : List Float) (bs : List ℕ) (fits : n ≤ 20) (
 
 -- ---- the next mask
 
-pub next-skip : (n m i p : ℕ) → i ≡ low m → p ≡ 2 ^ i → 2 ^ i ≤ m → 0 < p → ones m + 2 * i + 2 < n → Next n m (m + p)
-next-skip n m i p e g h some few = record { later = omega arith; near = omega arith; skipped = λ k l b w. go k l b w }
+pub next-skip : (n m i e p : ℕ) → i ≡ low m → 2 ^ i ≤ m → e ≤ i → p ≡ 2 ^ e → ones m + 2 * e + 2 ≤ n → Next n m (m + p)
+next-skip n m i e p is h l g few =
+    let some = pow-pos e in
+    let small = pow-mono {i = e} {j = i} l in
+    record { later = omega arith; near = omega arith; skipped = λ k a b w. go k a b w }
   where
     go : (k : ℕ) → m < k → k < m + p → Needed n k → ⊥
-    go k l b w =
-        let s : k ≡ m + (k - m) = omega arith in
-        let q : p ≡ 2 ^ low m = g ∙ ap (λ (x : ℕ). 2 ^ x) e in
-        let u = needed-more n m (k - m) (omega arith) (subst (Needed n) s w) in
-        omega arith
+    go k a b w = let s : k ≡ m + (k - m) = omega arith in needed-more n m (k - m) e (omega arith) (omega arith) (omega arith) few (subst (Needed n) s w)
 
 pub next-one : (n m : ℕ) → 0 < m → Next n m (m + 1)
 next-one n m p = record { later = omega arith; near = omega arith; skipped = λ k l b w. omega arith }

@@ -28,7 +28,7 @@ abbrev listed : tie.After-odd-nodes → List ℕ
 listed c = c .odd-nodes .last .1 .1 .1 .1 .1 .1 .0
 
 abbrev ends-of : tie.After-apply-pair → tie.After-wide2
-ends-of c = c .before .before .before .before .before
+ends-of c = c .before .before .before .before .before .before .before .before
 
 abbrev odd-of : tie.After-apply-pair → tie.After-odd-nodes
 odd-of c = ends-of c .before .before .before
@@ -48,7 +48,7 @@ last c =
 -- by the answer that a branch found
 made : (c : tie.After-apply-pair) (answer : Applied) → c .apply-pair .result ≡ answer → Answers (start (odd-of c) .args .n) (last c) answer (after c)
 unfolding ofBits
-made c answer e = subst (λ (x : Applied). Answers (start (odd-of c) .args .n) (last c) x (after c)) e (c .apply-pair .ensures)
+made c answer e = subst (λ (x : Applied). Answers (start (odd-of c) .args .n) (last c) x (after c)) e (c .apply-pair .ensures .0)
 
 returns : tie.Need-returns
 returns c =
@@ -79,13 +79,13 @@ wide-requires-2 c κs = search needs
 
 apply-pair-requires : tie.Need-apply-pair-requires
 apply-pair-requires c κs =
-    let w = c .before .before .before .before in
+    let w = c .before .before .before .before .before .before .before in
     let e = w .before .before in
     let f = e .before in
     let b = start f in
     let below = node-below (b .args .most) (b .args .number) (b .args .n) (b .args .m) (b .args .sum) (entry b) (b .pre .1) (b .args .closing) (not-false (b .args .closing) (f .before .before .before .before .before .before .if1 .left))
     (listed f) (f .odd-nodes .result) (f .odd-nodes .ensures) in
-    ((omega (arith, w .before .wide .ensures, below 0 (omega (arith, e .if2 .left))), omega (arith, w .wide2 .ensures, below 1 (omega (arith, e .if2 .left))), b .pre .0), b .pre .1)
+    ((omega (arith, w .before .wide .ensures, below 0 (omega (arith, e .if2 .left))), omega (arith, w .wide2 .ensures, below 1 (omega (arith, e .if2 .left))), b .pre .0 .0, b .pre .0 .1), b .pre .1)
 
 enum-known-last : tie.Need-enum-known-last
 enum-known-last c = search needs

@@ -1,4 +1,4 @@
--- `greedy::nearer` meets its contract. Assumes nothing.
+-- `repair_greedy::nearer` meets its contract.
 use Rattle.repair_greedy.proofs.Rows.{closer-taken, closer-left}
 use Rattle.repair_greedy.proofs.nearer.Statement.{statement}
 use Rattle.repair_greedy.proofs.nearer.Tie as tie

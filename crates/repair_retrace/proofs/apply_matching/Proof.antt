@@ -10,6 +10,7 @@ use Rattle.repair_spec.specs.PairsIn.{pairsIn}
 use Rattle.repair_spec.specs.Pairing.{pair}
 use Rattle.repair_spec.specs.Repair.{Repairing, applyMatching}
 use Rattle.graph_arrays.specs.Arrays.{edgesIn}
+use Rattle.repair_search.specs.Touched.{Unreached}
 use Rattle.repair_retrace.specs.Outcome.{under}
 use Rattle.repair_retrace.specs.Answer.{Answers}
 use Rattle.repair_retrace.proofs.Matching.{Applying, applying-begin, applying-refused, applying-step, applying-end}
@@ -21,11 +22,11 @@ use Rattle.repair_retrace.proofs.apply_pair.Reads as apply-pair-reads
 use Rattle.widen.proofs.wide.Reads as wide-reads
 
 abbrev Inv-loop : tie.InvT-loop
-Inv-loop ends₀ weights₀ next₀ heads₀ n m firsts seconds pairs sum most number total₀ count₀ i₀ ends weights next heads total count i =
-    Applying most number n firsts seconds pairs (applyMatching most number n (pairsIn firsts seconds 0 pairs) (under (edgesIn m (adjacency ends₀ weights₀ next₀ heads₀)) sum)) (adjacency ends weights next heads) i count total
+Inv-loop ends₀ weights₀ next₀ heads₀ n m dist₀ tree₀ touched₀ firsts seconds pairs sum most number total₀ count₀ i₀ ends weights next heads dist tree touched total count i =
+    Unreached n dist tree touched × Applying most number n firsts seconds pairs (applyMatching most number n (pairsIn firsts seconds 0 pairs) (under (edgesIn m (adjacency ends₀ weights₀ next₀ heads₀)) sum)) (adjacency ends weights next heads) i count total
 
 abbrev μ-loop : tie.MeasureT-loop
-μ-loop ends₀ weights₀ next₀ heads₀ n m firsts seconds pairs sum most number total₀ count₀ i₀ ends weights next heads total count i = pairs - i
+μ-loop ends₀ weights₀ next₀ heads₀ n m dist₀ tree₀ touched₀ firsts seconds pairs sum most number total₀ count₀ i₀ ends weights next heads dist tree touched total count i = pairs - i
 
 abbrev entry : tie.Start Inv-loop μ-loop → Adjacency
 entry c = adjacency (c .args .ends .now) (c .args .weights .now) (c .args .next .now) (c .args .heads .now)
@@ -38,7 +39,7 @@ abbrev turn : tie.After-wide2 Inv-loop μ-loop → tie.In-loop Inv-loop μ-loop
 turn c = c .before .before .before .before
 
 abbrev pair-of : tie.After-apply-pair Inv-loop μ-loop → tie.After-wide2 Inv-loop μ-loop
-pair-of c = c .before .before .before .before .before
+pair-of c = c .before .before .before .before .before .before .before .before
 
 abbrev after : tie.After-apply-pair Inv-loop μ-loop → Adjacency
 after c = adjacency (c .apply-pair .last .0) (c .apply-pair .last .1 .0) (c .apply-pair .last .1 .1 .0) (c .apply-pair .last .1 .1 .1 .0)
@@ -55,10 +56,10 @@ made c answer e =
     let l = turn (pair-of c) .before in
     let b = l .before in
     subst (λ (x : Applied). Answers (b .args .n) (applyMatching (b .args .most) (b .args .number) (b .args .n) (pair (pair-of c .before .before .wide .result) (pair-of c .wide2 .result) ∷ []) (under (edgesIn (l .loop .count) (now-at l)) (l .loop .total))) x (after c))
-    e (c .apply-pair .ensures)
+    e (c .apply-pair .ensures .0)
 
 loop-holds : tie.Need-loop-holds Inv-loop μ-loop
-loop-holds c = applying-begin (c .args .most) (c .args .number) (c .args .n) (c .args .firsts .now) (c .args .seconds .now) (c .args .pairs) (c .args .m) (c .args .sum) (entry c) (c .pre .1)
+loop-holds c = (c .pre .0 .2, applying-begin (c .args .most) (c .args .number) (c .args .n) (c .args .firsts .now) (c .args .seconds .now) (c .args .pairs) (c .args .m) (c .args .sum) (entry c) (c .pre .1))
 
 mul-wide : tie.Need-mul-wide Inv-loop μ-loop
 mul-wide c = omega (arith, c .loop-test .taken, c .before .before .pre .0 .1)
@@ -80,11 +81,11 @@ wide-requires-2 c κs = search needs
 
 apply-pair-requires : tie.Need-apply-pair-requires Inv-loop μ-loop
 apply-pair-requires c κs =
-    let t = c .before .before .before .before in
+    let t = c .before .before .before .before .before .before .before in
     let l = turn t .before in
     let b = l .before in
-    let p = b .pre .0 .2 (l .loop .i) (turn t .loop-test .taken) in
-    ((omega (arith, t .before .before .wide .ensures, p .0), omega (arith, t .wide2 .ensures, p .1), b .pre .0 .0), l .loop .inv .held)
+    let p = b .pre .0 .3 (l .loop .i) (turn t .loop-test .taken) in
+    ((omega (arith, t .before .before .wide .ensures, p .0), omega (arith, t .wide2 .ensures, p .1), b .pre .0 .0, l .loop .inv .0), l .loop .inv .1 .held)
 
 enum-known-step : tie.Need-enum-known-step Inv-loop μ-loop
 enum-known-step c = search needs
@@ -97,10 +98,12 @@ returns c =
     let f = c .before .before in
     let t = pair-of f in
     let l = turn t .before in
-    let b = l .before in
-    subst (λ (x : Applied). Answers (b .args .n) (whole b) x (after f)) (sym (c .enum-told .given .1))
-    (applying-refused (b .args .most) (b .args .number) (b .args .n) (b .args .firsts .now) (b .args .seconds .now) (b .args .pairs) (whole b) (now-at l) (l .loop .i) (l .loop .count) (l .loop .total) (l .loop .inv)
-    (turn t .loop-test .taken) (t .before .before .wide .result) (t .wide2 .result) (t .before .before .wide .ensures) (t .wide2 .ensures) (after f) _ (made f _ (c .enum-told .given .1)))
+    let b = l .before in (
+      subst (λ (x : Applied). Answers (b .args .n) (whole b) x (after f)) (sym (c .enum-told .given .1))
+          (applying-refused (b .args .most) (b .args .number) (b .args .n) (b .args .firsts .now) (b .args .seconds .now) (b .args .pairs) (whole b) (now-at l) (l .loop .i) (l .loop .count) (l .loop .total) (l .loop .inv .1)
+          (turn t .loop-test .taken) (t .before .before .wide .result) (t .wide2 .result) (t .before .before .wide .ensures) (t .wide2 .ensures) (after f) _ (made f _ (c .enum-told .given .1))),
+      f .apply-pair .ensures .1,
+    )
 
 add-i : tie.Need-add-i Inv-loop μ-loop
 add-i c = omega (arith, turn (pair-of (c .before .before .before)) .loop-test .taken, turn (pair-of (c .before .before .before)) .before .before .pre .0 .1)
@@ -113,15 +116,17 @@ loop-again c =
     let f = c .before .before .before in
     let t = pair-of f in
     let l = turn t .before in
-    let b = l .before in
-    applying-step (b .args .most) (b .args .number) (b .args .n) (b .args .firsts .now) (b .args .seconds .now) (b .args .pairs) (whole b) (now-at l) (l .loop .i) (l .loop .count) (l .loop .total) (l .loop .inv)
-    (turn t .loop-test .taken) (t .before .before .wide .result) (t .wide2 .result) (t .before .before .wide .ensures) (t .wide2 .ensures) (after f) _ _ (made f _ (c .before .step .given .1))
+    let b = l .before in (
+      f .apply-pair .ensures .1,
+      applying-step (b .args .most) (b .args .number) (b .args .n) (b .args .firsts .now) (b .args .seconds .now) (b .args .pairs) (whole b) (now-at l) (l .loop .i) (l .loop .count) (l .loop .total) (l .loop .inv .1)
+          (turn t .loop-test .taken) (t .before .before .wide .result) (t .wide2 .result) (t .before .before .wide .ensures) (t .wide2 .ensures) (after f) _ _ (made f _ (c .before .step .given .1)),
+    )
 
 returns-2 : tie.Need-returns-2 Inv-loop μ-loop
 returns-2 c =
     let l = c .before in
     let b = l .before in
-    applying-end (b .args .most) (b .args .number) (b .args .n) (b .args .firsts .now) (b .args .seconds .now) (b .args .pairs) (whole b) (now-at l) (l .loop .i) (l .loop .count) (l .loop .total) (l .loop .inv) (omega (arith, c .loop-test .left))
+    (applying-end (b .args .most) (b .args .number) (b .args .n) (b .args .firsts .now) (b .args .seconds .now) (b .args .pairs) (whole b) (now-at l) (l .loop .i) (l .loop .count) (l .loop .total) (l .loop .inv .1) (omega (arith, c .loop-test .left)), l .loop .inv .0)
 
 pub apply-matching-spec : {M : Type 1} → statement M
 apply-matching-spec =

@@ -24,17 +24,17 @@ abbrev edges : tie.Start → List Edge
 edges c = edgesIn (c .args .m) (entry c)
 
 abbrev start : tie.After-shortest-path → tie.Start
-start c = c .before .before .before .before .before .before
+start c = c .before .before .before .before .before .before .before .before .before
 
 abbrev nodes : tie.After-shortest-path → List ℕ
-nodes c = c .shortest-path .last .1 .1 .1 .1 .1 .1 .0
+nodes c = c .shortest-path .last .1 .1 .1 .1 .1 .1 .1 .1 .1 .0
 
 -- the way, by the answer that a branch found
 way-of : (c : tie.After-shortest-path) (way : Way) → c .shortest-path .result ≡ way → wayIn (nodes c) way ≡ shortestPath (start c .args .n) (edges (start c)) (start c .args .from) (start c .args .to)
 way-of c way e = subst (λ (w : Way). wayIn (nodes c) w ≡ shortestPath (start c .args .n) (edges (start c)) (start c .args .from) (start c .args .to)) e (c .shortest-path .ensures .0)
 
 long : (c : tie.After-shortest-path) → length (nodes c) ≡ mostNodes
-long c = c .shortest-path .ensures .1
+long c = c .shortest-path .ensures .1 .0
 
 -- where one is found: its place in the array
 abbrev place : tie.After-way → ℕ
@@ -65,7 +65,7 @@ returns : tie.Need-returns
 returns c =
     let f = c .before .before in
     let a = start f .args in
-    answers-missing (a .most) (a .number) (a .n) (a .m) (a .from) (a .to) (a .sum) (entry (start f)) _ (way-of f _ (c .enum-told .given .1))
+    (answers-missing (a .most) (a .number) (a .n) (a .m) (a .from) (a .to) (a .sum) (entry (start f)) _ (way-of f _ (c .enum-told .given .1)), f .shortest-path .ensures .1 .1)
 
 sub-count : tie.Need-sub-count
 sub-count c = search needs
@@ -81,7 +81,7 @@ returns-2 c =
     let w = c .before .before in
     let f = searched w in
     let a = start f .args in
-    answers-over (a .most) (a .number) (a .n) (a .m) (a .from) (a .to) (a .sum) (entry (start f)) _ (nodes f) (long f) (place w) (is-way w) (c .if1 .taken)
+    (answers-over (a .most) (a .number) (a .n) (a .m) (a .from) (a .to) (a .sum) (entry (start f)) _ (nodes f) (long f) (place w) (is-way w) (c .if1 .taken), f .shortest-path .ensures .1 .1)
 
 lay-path-requires : tie.Need-lay-path-requires
 lay-path-requires c κs =
@@ -104,9 +104,11 @@ returns-3 c =
     let w = e .before .before in
     let f = searched w in
     let b = start f in
-    let a = b .args in
-    answers-laid (a .most) (a .number) (a .n) (a .m) (a .from) (a .to) (a .sum) (entry b) _ (nodes f) (long f) (place w) (is-way w) (b .pre .0 .2) (b .pre .1) (omega (arith, e .if1 .left))
-    (c .lay-path .result) (c .lay-path .ensures .0) (c .lay-path .ensures .1)
+    let a = b .args in (
+      answers-laid (a .most) (a .number) (a .n) (a .m) (a .from) (a .to) (a .sum) (entry b) _ (nodes f) (long f) (place w) (is-way w) (b .pre .0 .2) (b .pre .1) (omega (arith, e .if1 .left))
+          (c .lay-path .result) (c .lay-path .ensures .0) (c .lay-path .ensures .1),
+      f .shortest-path .ensures .1 .1,
+    )
 
 pub apply-pair-spec : {M : Type 1} → statement M
 apply-pair-spec =

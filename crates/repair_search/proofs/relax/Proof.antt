@@ -1,22 +1,23 @@
 -- `repair_search::relax` meets its contract. Assumes nothing.
-use mathlib.Core.Path.{_≡_, sym, subst}
+use mathlib.Core.Path.{sym, subst}
 use Prim.Native.Nat.{ℕ}
 use native.Mathlib.Omega.{arith}
 use borrow.Author.Needs.{needs}
 use Rattle.graph_spec.specs.Graph.{edgesAt}
 use Rattle.graph_adjacency.specs.Lists.{Adjacency, adjacency}
 use Rattle.graph_arrays.specs.Arrays.{edgesIn}
+use Rattle.repair_search.specs.Touched.{Listed}
 use Rattle.repair_search.proofs.Along.{Known}
 use Rattle.repair_search.proofs.Relaxing.{Relaxing, relaxing-begin, relaxing-known, relaxing-cost, relaxing-turn, relaxing-end}
 use Rattle.repair_search.proofs.relax.Statement.{statement}
 use Rattle.repair_search.proofs.relax.Tie as tie
 
 abbrev Inv-loop : tie.InvT-loop
-Inv-loop ends weights next heads n m dist₀ tree₀ u d k₀ dist tree k =
-    Relaxing n (adjacency ends weights next heads) (edgesAt (edgesIn m (adjacency ends weights next heads)) u) u d dist₀ tree₀ k dist tree
+Inv-loop ends weights next heads n m dist₀ tree₀ touched₀ u d count listed₀ k₀ dist tree touched listed k =
+    Listed n dist touched listed × Relaxing n (adjacency ends weights next heads) (edgesAt (edgesIn m (adjacency ends weights next heads)) u) u d dist₀ tree₀ k dist tree
 
 abbrev μ-loop : tie.MeasureT-loop
-μ-loop ends weights next heads n m dist₀ tree₀ u d k₀ dist tree k = k
+μ-loop ends weights next heads n m dist₀ tree₀ touched₀ u d count listed₀ k₀ dist tree touched listed k = k
 
 abbrev graph : tie.Start Inv-loop μ-loop → Adjacency
 graph c = adjacency (c .args .ends .now) (c .args .weights .now) (c .args .next .now) (c .args .heads .now)
@@ -30,16 +31,18 @@ known : (c : tie.In-loop Inv-loop μ-loop) → Known (start c .args .n) (graph (
 known c =
     let b = start c in
     relaxing-known (b .args .n) (b .args .m) (graph b) (b .pre .1) (b .args .u) (b .pre .0 .0) (b .args .d) (b .pre .0 .1) (b .args .dist .now) (b .args .tree .now) (c .before .loop .k) (c .before .loop .dist) (c .before .loop .tree)
-    (c .before .loop .inv) (c .loop-test .taken)
+    (c .before .loop .inv .1) (c .loop-test .taken)
 
 first-arc-requires : tie.Need-first-arc-requires Inv-loop μ-loop
 first-arc-requires c κs = omega (arith, c .pre .0 .0, c .pre .1 .edges .few-nodes)
 
 loop-holds : tie.Need-loop-holds Inv-loop μ-loop
 loop-holds c =
-    let b = c .before in
-    subst (λ (k : ℕ). Relaxing (b .args .n) (graph b) (edgesAt (edgesIn (b .args .m) (graph b)) (b .args .u)) (b .args .u) (b .args .d) (b .args .dist .now) (b .args .tree .now) k (b .args .dist .now) (b .args .tree .now)) (sym (c .first-arc .ensures))
-    (relaxing-begin (b .args .n) (b .args .m) (graph b) (b .pre .1) (b .args .u) (b .pre .0 .0) (b .args .d) (b .pre .0 .1) (b .args .dist .now) (b .args .tree .now) (b .pre .0 .2))
+    let b = c .before in (
+      b .pre .0 .3,
+      subst (λ (k : ℕ). Relaxing (b .args .n) (graph b) (edgesAt (edgesIn (b .args .m) (graph b)) (b .args .u)) (b .args .u) (b .args .d) (b .args .dist .now) (b .args .tree .now) k (b .args .dist .now) (b .args .tree .now)) (sym (c .first-arc .ensures))
+          (relaxing-begin (b .args .n) (b .args .m) (graph b) (b .pre .1) (b .args .u) (b .pre .0 .0) (b .args .d) (b .pre .0 .1) (b .args .dist .now) (b .args .tree .now) (b .pre .0 .2)),
+    )
 
 edge-number-requires : tie.Need-edge-number-requires Inv-loop μ-loop
 edge-number-requires c κs = known c .some
@@ -64,35 +67,40 @@ wide-requires c κs = search needs
 
 offer-requires : tie.Need-offer-requires Inv-loop μ-loop
 offer-requires c κs =
-    let l = c .before .before .before .before .before .before in
+    let l = c .before .before .before .before .before .before .before in
     let b = start l in (
-      b .pre .1 .edges .few-nodes,
-      omega (arith, known l .to, c .before .before .wide .ensures),
-      l .before .loop .inv .held,
-      relaxing-cost (b .args .n) (b .args .m) (graph b) (b .pre .1) (b .args .u) (b .pre .0 .0) (b .args .d) (b .pre .0 .1) (b .args .dist .now) (b .args .tree .now) (l .before .loop .k) (l .before .loop .dist) (l .before .loop .tree)
-          (l .before .loop .inv) (l .loop-test .taken) _ (c .before .before .before .before .before .edge-number .ensures),
+      (
+        b .pre .1 .edges .few-nodes,
+        omega (arith, known l .to, c .before .before .before .wide .ensures),
+        l .before .loop .inv .1 .held,
+        relaxing-cost (b .args .n) (b .args .m) (graph b) (b .pre .1) (b .args .u) (b .pre .0 .0) (b .args .d) (b .pre .0 .1) (b .args .dist .now) (b .args .tree .now) (l .before .loop .k) (l .before .loop .dist) (l .before .loop .tree)
+            (l .before .loop .inv .1) (l .loop-test .taken) _ (c .before .before .before .before .before .before .edge-number .ensures),
+      ),
+      l .before .loop .inv .0,
     )
 
 next-arc-requires : tie.Need-next-arc-requires Inv-loop μ-loop
 next-arc-requires c κs =
-    let l = c .before .before .before .before .before .before .before in
+    let l = c .before .before .before .before .before .before .before .before in
     (known l .some, known l .within, omega (arith, start l .pre .0 .0, start l .pre .1 .edges .few-nodes))
 
 loop-less : tie.Need-loop-less Inv-loop μ-loop
-loop-less c = omega (arith, c .next-arc .ensures, known (c .before .before .before .before .before .before .before .before) .falls)
+loop-less c = omega (arith, c .next-arc .ensures, known (c .before .before .before .before .before .before .before .before .before) .falls)
 
 loop-again : tie.Need-loop-again Inv-loop μ-loop
 loop-again c =
-    let l = c .before .before .before .before .before .before .before .before in
-    let b = start l in
-    relaxing-turn (b .args .n) (b .args .m) (graph b) (b .pre .1) (b .args .u) (b .pre .0 .0) (b .args .d) (b .pre .0 .1) (b .args .dist .now) (b .args .tree .now) (l .before .loop .k) (l .before .loop .dist) (l .before .loop .tree)
-    (l .before .loop .inv) (l .loop-test .taken) _ _ _ (c .before .before .before .before .before .before .before .edge-number .ensures) (c .before .before .before .before .wide .ensures) (c .next-arc .ensures)
-    (c .before .offer .last .0) (c .before .offer .last .1 .0) (c .before .offer .ensures)
+    let l = c .before .before .before .before .before .before .before .before .before in
+    let b = start l in (
+      c .before .offer .ensures .1,
+      relaxing-turn (b .args .n) (b .args .m) (graph b) (b .pre .1) (b .args .u) (b .pre .0 .0) (b .args .d) (b .pre .0 .1) (b .args .dist .now) (b .args .tree .now) (l .before .loop .k) (l .before .loop .dist) (l .before .loop .tree)
+          (l .before .loop .inv .1) (l .loop-test .taken) _ _ _ (c .before .before .before .before .before .before .before .before .edge-number .ensures) (c .before .before .before .before .before .wide .ensures) (c .next-arc .ensures)
+          (c .before .offer .last .0) (c .before .offer .last .1 .0) (c .before .offer .ensures .0),
+    )
 
 returns : tie.Need-returns Inv-loop μ-loop
 returns c =
     let b = c .before .before .before in
-    relaxing-end (b .args .n) (b .args .m) (graph b) (b .pre .1) (b .args .u) (b .pre .0 .0) (b .args .d) (b .pre .0 .1) (b .args .dist .now) (b .args .tree .now) (c .before .loop .k) _ _ (c .before .loop .inv) (c .loop-test .left)
+    (relaxing-end (b .args .n) (b .args .m) (graph b) (b .pre .1) (b .args .u) (b .pre .0 .0) (b .args .d) (b .pre .0 .1) (b .args .dist .now) (b .args .tree .now) (c .before .loop .k) _ _ (c .before .loop .inv .1) (c .loop-test .left), c .before .loop .inv .0)
 
 pub relax-spec : {M : Type 1} → statement M
 relax-spec =
