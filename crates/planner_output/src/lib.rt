@@ -40,7 +40,18 @@ pub fn emit_line(
 {
     // 8,004 bytes.
     let mut line = [0u16; LINE_ROOM];
-    let count = walk::line_of(xs, ys, ends, weights, next, heads, n, m, settings, &mut line);
+    let count = walk::line_of(
+        xs,
+        ys,
+        ends,
+        weights,
+        next,
+        heads,
+        n,
+        m,
+        settings,
+        &mut line,
+    );
     if output.len() < 6 + 16 * count {
         return Emitted::Short;
     }
