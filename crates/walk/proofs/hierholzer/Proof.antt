@@ -64,10 +64,13 @@ open-line-requires c κs =
     let few = b .pre .1 .0 .few in
     let f = c .before .before .before .before .before .before .before .before .before .before .odd-nodes .ensures in
     let two = odd-two _ (edges b) few _ _ f (b .pre .1 .1 .edges .inside) (c .before .before .before .before .before .before .before .before .before .if2 .left) in
-    let listed = odd-nodes _ (edges b) few _ _ f in (
-      (omega (arith, c .before .before .before .before .before .before .before .before .wide .ensures, listed .nodes-in 0 (omega arith)), omega (arith, c .before .before .before .before .before .before .before .wide2 .ensures, listed .nodes-in 1 two), c .before .before .before .before .before .best2 .ensures .1),
-      (omega (arith, b .pre .1 .1 .room), b .pre .1 .1 .edges),
-    )
+    let listed = odd-nodes _ (edges b) few _ _ f in
+    let first = listed .nodes-in 0 (omega arith) in
+    let second = listed .nodes-in 1 two in
+    let u = c .before .before .before .before .before .before .before .before .wide .ensures in
+    let v = c .before .before .before .before .before .before .before .wide2 .ensures in
+    let s = c .before .before .before .before .before .best2 .ensures .1 in
+    ((omega arith, omega arith, omega arith), (omega (arith, b .pre .1 .1 .room), b .pre .1 .1 .edges))
 
 returns-3 : tie.Need-returns-3
 returns-3 c =

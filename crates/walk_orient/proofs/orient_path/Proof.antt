@@ -24,7 +24,7 @@ lies-better-requires : tie.Need-lies-better-requires
 lies-better-requires c κs =
     let b = c .before .before .before .before .before in
     let on = ends-on (settingsOf (b .args .settings)) (b .args .n) (b .args .xs .now) (b .args .ys .now) (b .args .line .now) (b .args .count) _ (c .before .before .before .end-points .ensures) _ _ (c .before .first .given .1) (b .pre .1 .0) in
-    (b .pre .0, (on .1, on .0))
+    (b .pre .0, search needs)
 
 reverse-requires : tie.Need-reverse-requires
 reverse-requires c κs = search needs
