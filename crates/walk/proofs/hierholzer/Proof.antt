@@ -35,10 +35,9 @@ closed-line-requires c κs = (c .before .before .before .before .before .best .e
 
 returns-2 : tie.Need-returns-2
 returns-2 c =
-    let b = c .before .before .before .before .before .before .before .before .before .before .before .before .before .before .before .before .before .before .before .before .before .before in
-    (
+    let b = c .before .before .before .before .before .before .before .before .before .before .before .before .before .before .before .before .before .before .before .before .before .before in (
       c .closed-line .ensures .0
-      ∙ walk-closed (settingsOf (b .args .settings)) (b .args .n) (b .args .xs .now) (b .args .ys .now) (edges b) (omega arith) _ _ (c .before .before .before .before .before .before .before .before .before .before .before .before .before .before .before .odd-nodes .ensures) (c .before .before .before .before .before .before .before .before .before .before .before .before .before .before .if2 .taken) _ _ _ (c .before .before .before .before .before .before .before .before .nodes-with-edges .ensures) (c .before .before .before .before .before .before .best .ensures .0),
+          ∙ walk-closed (settingsOf (b .args .settings)) (b .args .n) (b .args .xs .now) (b .args .ys .now) (edges b) (omega arith) _ _ (c .before .before .before .before .before .before .before .before .before .before .before .before .before .before .before .odd-nodes .ensures) (c .before .before .before .before .before .before .before .before .before .before .before .before .before .before .if2 .taken) _ _ _ (c .before .before .before .before .before .before .before .before .nodes-with-edges .ensures) (c .before .before .before .before .before .before .best .ensures .0),
       c .closed-line .ensures .1,
     )
 
@@ -66,17 +65,18 @@ open-line-requires c κs =
     let f = c .before .before .before .before .before .before .before .before .before .before .odd-nodes .ensures in
     let two = odd-two _ (edges b) few _ _ f (b .pre .1 .1 .edges .inside) (c .before .before .before .before .before .before .before .before .before .if2 .left) in
     let listed = odd-nodes _ (edges b) few _ _ f in
-    (
-      (omega (arith, c .before .before .before .before .before .before .before .before .wide .ensures, listed .nodes-in 0 (omega arith)), omega (arith, c .before .before .before .before .before .before .before .wide2 .ensures, listed .nodes-in 1 two), c .before .before .before .before .before .best2 .ensures .1),
-      (omega (arith, b .pre .1 .1 .room), b .pre .1 .1 .edges),
-    )
+    let first = listed .nodes-in 0 (omega arith) in
+    let second = listed .nodes-in 1 two in
+    let u = c .before .before .before .before .before .before .before .before .wide .ensures in
+    let v = c .before .before .before .before .before .before .before .wide2 .ensures in
+    let s = c .before .before .before .before .before .best2 .ensures .1 in
+    ((omega arith, omega arith, omega arith), (omega (arith, b .pre .1 .1 .room), b .pre .1 .1 .edges))
 
 returns-3 : tie.Need-returns-3
 returns-3 c =
     let b = c .before .before .before .before .before .before .before .before .before .before .before .before .before .before .before .before .before .before in
     let f = c .before .before .before .before .before .before .before .before .before .before .before .odd-nodes .ensures in
-    let two = odd-two _ (edges b) (b .pre .1 .0 .few) _ _ f (b .pre .1 .1 .edges .inside) (c .before .before .before .before .before .before .before .before .before .before .if2 .left) in
-    (
+    let two = odd-two _ (edges b) (b .pre .1 .0 .few) _ _ f (b .pre .1 .1 .edges .inside) (c .before .before .before .before .before .before .before .before .before .before .if2 .left) in (
       c .open-line .ensures .0 ∙ walk-open (settingsOf (b .args .settings)) (b .args .n) (b .args .xs .now) (b .args .ys .now) (edges b) (omega arith) _ _ f two _ _ _ (c .before .before .before .before .before .before .before .before .before .wide .ensures) (c .before .before .before .before .before .before .before .before .wide2 .ensures) (c .before .before .before .before .before .before .best2 .ensures .0),
       c .open-line .ensures .1,
     )

@@ -29,8 +29,7 @@ returns : tie.Need-returns
 unfolding ofBits
 returns c =
     let b = c .before .before .before .before .before .before .before .before .before .before .before .before .before .before .before .before in
-    let walked = c .before .before .before .before .circuit .ensures in
-    (
+    let walked = c .before .before .before .before .circuit .ensures in (
       c .cut .ensures .0 ∙ open-is _ _ _ _ (arrays b) _ (b .pre .1 .1) (b .pre .1 .0) (b .pre .0 .0) (b .pre .0 .1) (c .before .before .before .before .before .before .before .before .before .before .before .push-edge .ensures) _ _ _ _ (walked .0),
       c .cut .ensures .1 _ (walked .1),
     )

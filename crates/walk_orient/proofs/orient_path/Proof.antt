@@ -24,15 +24,14 @@ lies-better-requires : tie.Need-lies-better-requires
 lies-better-requires c κs =
     let b = c .before .before .before .before .before in
     let on = ends-on (settingsOf (b .args .settings)) (b .args .n) (b .args .xs .now) (b .args .ys .now) (b .args .line .now) (b .args .count) _ (c .before .before .before .end-points .ensures) _ _ (c .before .first .given .1) (b .pre .1 .0) in
-    (b .pre .0, (on .1, on .0))
+    (b .pre .0, search needs)
 
 reverse-requires : tie.Need-reverse-requires
 reverse-requires c κs = search needs
 
 returns-2 : tie.Need-returns-2
 returns-2 c =
-    let b = c .before .before .before .before .before .before .before .before .before in
-    (
+    let b = c .before .before .before .before .before .before .before .before .before in (
       turned-round (settingsOf (b .args .settings)) (b .args .n) (b .args .xs .now) (b .args .ys .now) (b .args .line .now) (b .args .count) _ (c .before .before .before .before .before .before .before .end-points .ensures) _ _ (c .before .before .before .before .before .first .given .1) _ (c .reverse .ensures) (sym (c .before .before .before .lies-better .ensures) ∙ c .before .before .if1 .taken),
       reversed-nodes _ _ _ _ (c .reverse .ensures) (b .pre .1 .1),
     )

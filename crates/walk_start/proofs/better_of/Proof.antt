@@ -19,16 +19,14 @@ lies-better-requires c κs =
 
 returns : tie.Need-returns
 returns c =
-    let b = c .before .before .before .before in
-    (
+    let b = c .before .before .before .before in (
       better-yes (settingsOf (b .args .settings)) (b .args .n) (b .args .xs .now) (b .args .ys .now) _ _ _ _ (b .pre .1 .0 .0) (b .pre .1 .0 .1) (c .before .before .before .point-of .ensures) (c .before .before .point-of2 .ensures) (sym (c .before .lies-better .ensures) ∙ c .if1 .taken),
       b .pre .1 .0 .1,
     )
 
 returns-2 : tie.Need-returns-2
 returns-2 c =
-    let b = c .before .before .before .before in
-    (
+    let b = c .before .before .before .before in (
       better-no (settingsOf (b .args .settings)) (b .args .n) (b .args .xs .now) (b .args .ys .now) _ _ _ _ (b .pre .1 .0 .0) (b .pre .1 .0 .1) (c .before .before .before .point-of .ensures) (c .before .before .point-of2 .ensures) (sym (c .before .lies-better .ensures) ∙ c .if1 .left),
       b .pre .1 .0 .0,
     )
