@@ -55,12 +55,7 @@ pub fn first_arc(heads: &[u16; 2 * MOST_NODES], v: usize) -> usize
 }
 
 // The arc of the node v after its arc k; 0 after the last.
-pub fn next_arc(
-    next: &[u16; ARC_ROOM],
-    heads: &[u16; 2 * MOST_NODES],
-    v: usize,
-    k: usize,
-) -> usize
+pub fn next_arc(next: &[u16; ARC_ROOM], heads: &[u16; 2 * MOST_NODES], v: usize, k: usize) -> usize
     requires { ⌜ (0 < k) × (k ≤ arcRoom) × (v < mostNodes) ⌝ }
     ensures { λ r. ⌜ r ≡ nextArc (now (next .entry)) (now (heads .entry)) v k ⌝ }
 {
