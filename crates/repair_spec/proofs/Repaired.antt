@@ -12,7 +12,7 @@ use borrow.Author.Tests.{leb-true, leb-false, eqb-true, eqb-false}
 use Rattle.drawing_spec.specs.Drawing.{Settings, optimal, closing}
 use Rattle.drawing_spec.proofs.Members.{either}
 use Rattle.graph_spec.specs.Graph.{Edge, Graph}
-use Rattle.graph_spec.specs.Degree.{hit, degree, oddNodes}
+use Rattle.graph_spec.specs.Odd.{hit, degree, oddNodes}
 use Rattle.graph_spec.specs.Ways.{Inside}
 use Rattle.graph_spec.proofs.Sums.{hit-same}
 use Rattle.graph_spec.proofs.Handshake.{handshake, sum-add, sum-same, sum-none, sum-hit, length-odd}
