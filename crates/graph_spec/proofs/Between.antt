@@ -9,7 +9,7 @@ use lib.ListN.{length}
 use Rattle.drawing_spec.specs.Drawing.{Point}
 use Rattle.drawing_spec.specs.Members.{All}
 use Rattle.graph_spec.specs.Graph.{nodeOf, pointAt}
-use Rattle.graph_spec.specs.Degree.{hit}
+use Rattle.graph_spec.specs.Odd.{hit}
 use Rattle.graph_spec.specs.Count.{sumOver, stepSum, lineSum, joint, lies, touches}
 use Rattle.graph_spec.specs.Nodes.{IsNode}
 use Rattle.graph_spec.proofs.Nodes.{Numbered, is-node, by-number, no-node}

@@ -16,9 +16,10 @@ use Rattle.drawing_spec.proofs.Same.{differ}
 use Rattle.drawing_spec.specs.Members.{In, All}
 use Rattle.drawing_spec.proofs.Members.{all-in, all-map, all-imp}
 use Rattle.drawing_spec.specs.OnGrid.{OnGrid, AtEnds}
-use Rattle.graph_spec.specs.Chain.{Stroke, squared, strokesOf, usesOf}
+use Rattle.graph_spec.specs.Pieces.{Stroke, strokesOf, usesOf}
+use Rattle.graph_spec.specs.Chain.{squared}
 use Rattle.graph_spec.specs.Graph.{Edge, nodeOf, pointAt, firstUses, edgeOf, buildGraph}
-use Rattle.graph_spec.specs.Degree.{hit, degree}
+use Rattle.graph_spec.specs.Odd.{hit, degree}
 use Rattle.graph_spec.specs.Count.{sumOver, joint, joining, lies, touches, strokesBetween, strokesAt}
 use Rattle.graph_spec.specs.Ways.{Inside}
 use Rattle.graph_spec.proofs.Sums.{degree-sum}

@@ -10,7 +10,8 @@ use Rattle.drawing_spec.specs.Drawing.{Point, same, End, Link, Drawing}
 use Rattle.drawing_spec.proofs.Members.{either}
 use Rattle.drawing_spec.specs.Read.{total}
 use Rattle.drawing_spec.specs.Accepted.{Counts}
-use Rattle.graph_spec.specs.Chain.{squared, stroke, naming, splits, insert, sort, inner, changes, distinct, chain, pieces, linePieces, piecesFrom, piecesOf, linkStrokes, linksOf, strokesOf}
+use Rattle.graph_spec.specs.Chain.{squared, naming, splits, insert, sort, inner, changes, distinct, chain}
+use Rattle.graph_spec.specs.Pieces.{stroke, pieces, linePieces, piecesFrom, piecesOf, linkStrokes, linksOf, strokesOf}
 use Rattle.graph_spec.specs.Graph.{edgeOf, buildGraph}
 
 abbrev Short : {A : Type 0} → ℕ → List A → Type 0

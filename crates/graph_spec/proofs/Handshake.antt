@@ -8,7 +8,7 @@ use mathlib.Core.Bool.{Bool, true, false}
 use borrow.Author.Tests.{eqb-true, eqb-false}
 use lib.ListN.{length}
 use Rattle.graph_spec.specs.Graph.{Edge}
-use Rattle.graph_spec.specs.Degree.{hit, degree, isOdd, oddFrom, oddNodes}
+use Rattle.graph_spec.specs.Odd.{hit, degree, isOdd, oddFrom, oddNodes}
 use Rattle.graph_spec.specs.Ways.{Inside}
 use Rattle.graph_spec.proofs.Sums.{hit-other, HitCases, hit-cases}
 

@@ -6,7 +6,7 @@ use mathlib.Core.Logic.{inl, inr}
 use mathlib.Core.List.{List, [], _∷_}
 use lib.ListN.{length}
 use Rattle.graph_spec.specs.Graph.{Edge}
-use Rattle.graph_spec.specs.Degree.{hit, degree, oddFrom, oddNodes}
+use Rattle.graph_spec.specs.Odd.{hit, degree, oddFrom, oddNodes}
 use Rattle.graph_spec.proofs.Sums.{hit-other, HitCases, hit-cases}
 use Rattle.graph_spec.proofs.Odd.{oddNodes-ascends}
 use Rattle.graph_spec.proofs.Handshake.{OddStep, odd-step}

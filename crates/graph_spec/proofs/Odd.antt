@@ -10,7 +10,7 @@ use native.Mathlib.Omega.{arith}
 use borrow.Author.Tests.{eqb-true, eq-eqb}
 use Rattle.drawing_spec.proofs.Members.{either}
 use Rattle.graph_spec.specs.Graph.{Edge}
-use Rattle.graph_spec.specs.Degree.{degree, isOdd, oddFrom, oddNodes}
+use Rattle.graph_spec.specs.Odd.{degree, isOdd, oddFrom, oddNodes}
 use Rattle.graph_spec.specs.Ways.{Inside}
 use Rattle.drawing_spec.specs.Members.{In}
 use Rattle.graph_spec.proofs.Sums.{hit-other}

@@ -11,7 +11,7 @@ use lib.Seq.{getD-set-same}
 use Rattle.drawing_spec.specs.Members.{In, All}
 use Rattle.drawing_spec.proofs.Members.{all-in, set-cases, getD-same}
 use Rattle.graph_spec.specs.Graph.{Edge}
-use Rattle.graph_spec.specs.Degree.{one}
+use Rattle.graph_spec.specs.Odd.{one}
 use Rattle.graph_spec.specs.Count.{sumOver}
 use Rattle.graph_spec.specs.Ways.{Joins, Joined, Inside, Reach, here, on}
 use Rattle.graph_spec.specs.Reach.{spread, sweep, sweeps, allTrue, allReached}

@@ -11,7 +11,8 @@ use Rattle.drawing_spec.proofs.Same.{same-true, differ}
 use Rattle.drawing_spec.specs.Members.{All}
 use Rattle.drawing_spec.proofs.Members.{either, all-append, all-front, all-back}
 use Rattle.drawing_spec.specs.OnGrid.{AtEnds}
-use Rattle.graph_spec.specs.Chain.{squared, Stroke, stroke, naming, splits, insert, sort, inner, changes, distinct, chain, pieces, linePieces, lineUses, piecesFrom, usesFrom, piecesOf, linkStrokes, linksOf, strokesOf, linkUses, usesOf}
+use Rattle.graph_spec.specs.Chain.{squared, naming, splits, insert, sort, inner, changes, distinct, chain}
+use Rattle.graph_spec.specs.Pieces.{Stroke, stroke, pieces, linePieces, lineUses, piecesFrom, usesFrom, piecesOf, linkStrokes, linksOf, strokesOf, linkUses, usesOf}
 use Rattle.graph_spec.specs.Count.{sumOver, lineSum, lies, stepsBetween, strokesBetween}
 
 -- ---- wherever two different points follow each other in a chain, there is one piece between them, and between a point and itself there is none

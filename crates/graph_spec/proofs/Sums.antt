@@ -9,7 +9,7 @@ use native.Mathlib.Omega.{arith}
 use lib.Dec.{eqb}
 use borrow.Author.Tests.{eqb-true, eqb-false, eq-eqb, ne-eqb}
 use Rattle.graph_spec.specs.Graph.{Edge}
-use Rattle.graph_spec.specs.Degree.{one, hit, degree}
+use Rattle.graph_spec.specs.Odd.{one, hit, degree}
 use Rattle.graph_spec.specs.Count.{sumOver, joint}
 use Rattle.graph_spec.specs.Ways.{Joins}
 

@@ -4,9 +4,9 @@ use mathlib.Core.List.{List, [], _∷_}
 use mathlib.Core.Bool.{_&&_, _||_}
 use lib.Dec.{eqb}
 use Rattle.drawing_spec.specs.Drawing.{Point, same}
-use Rattle.graph_spec.specs.Chain.{Stroke}
+use Rattle.graph_spec.specs.Pieces.{Stroke}
 use Rattle.graph_spec.specs.Graph.{Edge}
-use Rattle.graph_spec.specs.Degree.{one}
+use Rattle.graph_spec.specs.Odd.{one}
 
 -- a weight summed over a list
 unfoldable pub sumOver : {A : Type 0} → (A → ℕ) → List A → ℕ

@@ -7,7 +7,8 @@ use lib.Dec.{eqb, ltb}
 use lib.Ieee.{Float}
 use Rattle.length.specs.Root.{lengthOf, rootOver}
 use Rattle.drawing_spec.specs.Drawing.{Point, same, Drawing}
-use Rattle.graph_spec.specs.Chain.{Stroke, squared, piecesOf, linksOf, strokesOf, usesOf}
+use Rattle.graph_spec.specs.Pieces.{Stroke, piecesOf, linksOf, strokesOf, usesOf}
+use Rattle.graph_spec.specs.Chain.{squared}
 
 -- ---- nodes
 

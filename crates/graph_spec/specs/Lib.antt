@@ -1,13 +1,17 @@
 -- How lines and links become a graph.
--- Definitions:
+-- the chain of a segment, with its split points:
 pub mod Chain
+-- pieces and links, and the points in the order of their use:
+pub mod Pieces
+-- nodes and edges, and the order of a node's edges:
 pub mod Graph
-pub mod Degree
+-- degrees, and which nodes are odd:
+pub mod Odd
+-- which nodes can be reached:
 pub mod Reach
+-- how often a line steps between two points, and what lies there:
 pub mod Count
+-- Predicates that contracts and laws name: of ways along edges, of weights, of nodes:
 pub mod Ways
 pub mod Weights
--- Laws of sums, lines and ways:
--- Laws of a node's edges, and of odd nodes:
--- Laws of nodes, of strokes and of the whole graph; what can be reached:
 pub mod Nodes

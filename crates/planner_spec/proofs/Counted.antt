@@ -15,9 +15,9 @@ use Rattle.drawing_spec.specs.Drawing.{Point, Settings, closing, same, Drawing}
 use Rattle.drawing_spec.specs.Members.{All}
 use Rattle.drawing_spec.proofs.Members.{all-imp, all-map}
 use Rattle.drawing_spec.proofs.Same.{both}
-use Rattle.graph_spec.specs.Chain.{Stroke, strokesOf}
+use Rattle.graph_spec.specs.Pieces.{Stroke, strokesOf}
 use Rattle.graph_spec.specs.Graph.{Edge, nodeOf, pointAt, buildGraph}
-use Rattle.graph_spec.specs.Degree.{one, hit, degree, oddNodes}
+use Rattle.graph_spec.specs.Odd.{one, hit, degree, oddNodes}
 use Rattle.graph_spec.specs.Count.{sumOver, lineSum, joint, joining, lies, stepsBetween, strokesBetween, touches, strokesAt}
 use Rattle.graph_spec.specs.Ways.{Joins, Joined, Inside, Reach}
 use Rattle.drawing_spec.specs.Members.{In}
@@ -29,9 +29,10 @@ use Rattle.graph_spec.proofs.Between.{sum-none, sum-map, Agrees, nothing, lies-
 use Rattle.graph_spec.proofs.Built.{built-numbered, built-strokes, built-joining, built-degree, built-none, built-untouched}
 use Rattle.repair_spec.specs.Repair.{Repair}
 use Rattle.repair_spec.proofs.Repaired.{Repaired}
-use Rattle.walk_spec.specs.Line.{hierholzer, orient}
+use Rattle.walk_spec.specs.Line.{hierholzer}
+use Rattle.walk_spec.specs.Orient.{orient}
 use Rattle.walk_spec.proofs.Traced.{Traced, traced}
-use Rattle.walk_spec.proofs.Oriented.{orient-sum, orient-length}
+use Rattle.walk_spec.proofs.Orient.{orient-sum, orient-length}
 
 -- ---- what lies between two points, either way round
 

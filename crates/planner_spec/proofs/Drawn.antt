@@ -4,7 +4,7 @@ use Prim.Native.Nat.{ℕ, _+_, _<_}
 use lib.ListN.{length}
 use Rattle.drawing_spec.specs.Drawing.{Point, Drawing}
 use Rattle.drawing_spec.specs.Accepted.{InLimits}
-use Rattle.graph_spec.specs.Chain.{Stroke, piecesOf, linksOf, strokesOf}
+use Rattle.graph_spec.specs.Pieces.{Stroke, piecesOf, linksOf, strokesOf}
 use Rattle.graph_spec.specs.Graph.{buildGraph}
 use Rattle.graph_spec.specs.Count.{lies, touches, strokesBetween, strokesAt}
 use Rattle.graph_spec.proofs.Sums.{sumOver-append}

@@ -12,9 +12,9 @@ use borrow.Author.Tests.{eqb-true, eq-eqb, ne-eqb}
 use Rattle.limits.specs.Limits.{mostEdges}
 use Rattle.drawing_spec.specs.Drawing.{Point, closing, Drawing}
 use Rattle.drawing_spec.specs.Members.{All}
-use Rattle.graph_spec.specs.Chain.{strokesOf}
+use Rattle.graph_spec.specs.Pieces.{strokesOf}
 use Rattle.graph_spec.specs.Graph.{nodeOf, pointAt, buildGraph}
-use Rattle.graph_spec.specs.Degree.{isOdd, degree, oddNodes}
+use Rattle.graph_spec.specs.Odd.{isOdd, degree, oddNodes}
 use Rattle.graph_spec.specs.Count.{lastFrom, strokesAt}
 use Rattle.graph_spec.specs.Ways.{Reach}
 use Rattle.drawing_spec.specs.Members.{In}
@@ -24,8 +24,9 @@ use Rattle.graph_spec.proofs.Nodes.{node-point, distinct}
 use Rattle.graph_spec.proofs.Built.{built-numbered, built-inside, built-degree, built-untouched}
 use Rattle.repair_spec.specs.Repair.{Repair}
 use Rattle.repair_spec.proofs.Repaired.{Repaired}
-use Rattle.walk_spec.specs.Line.{hierholzer, orient, endPoints}
-use Rattle.walk_spec.proofs.Oriented.{orient-ends}
+use Rattle.walk_spec.specs.Line.{hierholzer}
+use Rattle.walk_spec.specs.Orient.{orient, endPoints}
+use Rattle.walk_spec.proofs.Orient.{orient-ends}
 use Rattle.planner_spec.proofs.Counted.{left-odd, trace, line, copiesTouching, left-degree, left-untouched}
 
 -- ---- odd numbers

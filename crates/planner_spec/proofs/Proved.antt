@@ -14,9 +14,9 @@ use Rattle.drawing_spec.specs.Accepted.{InLimits}
 use Rattle.drawing_spec.specs.Refusal.{accepted, verdict}
 use Rattle.drawing_spec.specs.Read.{readConditions}
 use Rattle.drawing_spec.proofs.Accepted.{accepted-fits, in-limits}
-use Rattle.graph_spec.specs.Chain.{strokesOf}
+use Rattle.graph_spec.specs.Pieces.{strokesOf}
 use Rattle.graph_spec.specs.Graph.{pointAt, buildGraph}
-use Rattle.graph_spec.specs.Degree.{isOdd}
+use Rattle.graph_spec.specs.Odd.{isOdd}
 use Rattle.graph_spec.specs.Count.{sumOver, lineSum, touches, stepsBetween, strokesAt}
 use Rattle.graph_spec.specs.Ways.{Reach}
 use Rattle.graph_spec.proofs.Reached.{all-reached}
@@ -25,7 +25,7 @@ use Rattle.graph_spec.proofs.Few.{counted-few}
 use Rattle.repair_spec.specs.Repair.{Repair, repaired}
 use Rattle.repair_spec.proofs.Repaired.{Repaired, fixed}
 use Rattle.walk_spec.specs.Line.{lineOf}
-use Rattle.walk_spec.proofs.Oriented.{orient-all}
+use Rattle.walk_spec.proofs.Orient.{orient-all}
 use Rattle.planner_spec.specs.LineRecord.{inFront, lineRecord, Written}
 use Rattle.planner_spec.specs.Plan.{Lent, Planned, planned, Outcome, drawingIn, repairOf, lineFor, accept, planGraph, planDrawing, plan}
 use Rattle.planner_spec.specs.Words.{retracesIn, copiesBetween, copiesAt, odd, leftOdd}

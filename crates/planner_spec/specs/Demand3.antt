@@ -7,7 +7,7 @@ use mathlib.Core.Bool.{true, false}
 use Rattle.drawing_spec.specs.Drawing.{Point, closing, Drawing}
 use Rattle.drawing_spec.specs.Accepted.{InLimits}
 use Rattle.graph_spec.specs.Count.{stepsBetween}
-use Rattle.walk_spec.specs.Line.{lastOf}
+use Rattle.walk_spec.specs.Orient.{lastOf}
 use Rattle.planner_spec.specs.LineRecord.{Written}
 use Rattle.planner_spec.specs.Plan.{Lent, Planned, planned, planDrawing, plan, drawingIn}
 use Rattle.planner_spec.specs.Words.{piecesBetween, linksBetween, copiesBetween, odd, leftOdd}

@@ -10,7 +10,7 @@ use Rattle.drawing_spec.specs.Drawing.{Point, Settings, Drawing}
 use Rattle.drawing_spec.specs.Refusal.{Condition, condition, refused, accepted, verdict}
 use Rattle.drawing_spec.specs.Read.{recordsOf, drawingOf, readConditions}
 use Rattle.graph_spec.specs.Graph.{Edge, Graph, buildGraph}
-use Rattle.graph_spec.specs.Degree.{oddNodes, oddFrom}
+use Rattle.graph_spec.specs.Odd.{oddNodes, oddFrom}
 use Rattle.graph_spec.specs.Reach.{allReached}
 use Rattle.repair_spec.specs.Distance.{zeroLength}
 use Rattle.repair_spec.specs.Repair.{Repair, Repairing, stopped, repaired, drawn, fixParity, tooManyOdd, tableShort}

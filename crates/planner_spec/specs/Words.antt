@@ -3,9 +3,9 @@ use Prim.Native.Nat.{ℕ, _+_}
 use mathlib.Core.List.{List, map}
 use mathlib.Core.Bool.{Bool}
 use Rattle.drawing_spec.specs.Drawing.{Point, Drawing}
-use Rattle.graph_spec.specs.Chain.{piecesOf, linksOf}
+use Rattle.graph_spec.specs.Pieces.{piecesOf, linksOf}
 use Rattle.graph_spec.specs.Graph.{pointAt, buildGraph}
-use Rattle.graph_spec.specs.Degree.{isOdd}
+use Rattle.graph_spec.specs.Odd.{isOdd}
 use Rattle.graph_spec.specs.Count.{sumOver, lineSum, touches, strokesAt, stepsBetween, strokesBetween}
 use Rattle.planner_spec.specs.Plan.{repairOf, repairOr}
 

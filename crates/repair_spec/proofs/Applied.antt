@@ -11,14 +11,15 @@ use borrow.Author.Tests.{leb-true}
 use Rattle.limits.specs.Limits.{refusedPath}
 use Rattle.drawing_spec.proofs.Members.{all-append}
 use Rattle.graph_spec.specs.Graph.{Edge}
-use Rattle.graph_spec.specs.Degree.{hit, degree}
+use Rattle.graph_spec.specs.Odd.{hit, degree}
 use Rattle.graph_spec.specs.Count.{sumOver, lineSum, joint, joining}
 use Rattle.graph_spec.specs.Ways.{Inside, Joined, Walks}
 use Rattle.drawing_spec.specs.Members.{All}
 use Rattle.graph_spec.proofs.Sums.{hit-same, sumOver-append}
 use Rattle.graph_spec.proofs.Connected.{joins-inside}
 use Rattle.graph_spec.proofs.Occurs.{count}
-use Rattle.repair_spec.specs.Retrace.{Path, found, error, shortestPath, Laid, lay, layPath}
+use Rattle.repair_spec.specs.Retrace.{Path, found, error, shortestPath}
+use Rattle.repair_spec.specs.Copies.{Laid, lay, layPath}
 use Rattle.repair_spec.proofs.Along.{shortest-along}
 use Rattle.repair_spec.proofs.Copies.{lay-count, lay-joining, lay-degree, lay-parity, lay-drawn, lay-old, lay-inside}
 use Rattle.repair_spec.specs.Pairing.{Pair, pair}

@@ -14,14 +14,14 @@ use Rattle.sums.specs.Key.{Nonneg}
 use Rattle.sums.proofs.Sum.{add-nonneg}
 use Rattle.drawing_spec.proofs.Members.{in-left, in-append}
 use Rattle.graph_spec.specs.Graph.{Edge, edge, Arc, edgesAt}
-use Rattle.graph_spec.specs.Degree.{hit, degree}
+use Rattle.graph_spec.specs.Odd.{hit, degree}
 use Rattle.graph_spec.specs.Count.{sumOver, lineSum, joint, joining}
 use Rattle.graph_spec.specs.Ways.{Joins, Joined, Inside, Walks}
 use Rattle.drawing_spec.specs.Members.{In}
 use Rattle.graph_spec.proofs.Sums.{sumOver-append, degree-sum}
 use Rattle.graph_spec.proofs.Connected.{joined-more}
 use Rattle.graph_spec.proofs.EdgesAt.{edgeAt, number-of, edgesAt-all, edgesAt-arc, arc-joins}
-use Rattle.repair_spec.specs.Retrace.{weightTo, Laid, lay}
+use Rattle.repair_spec.specs.Copies.{weightTo, Laid, lay}
 use Rattle.graph_spec.specs.Weights.{Weights}
 
 -- ---- one copy more

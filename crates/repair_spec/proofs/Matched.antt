@@ -10,7 +10,7 @@ use lib.Dec.{eqb}
 use lib.Ieee.{Float, lt}
 use borrow.Author.Tests.{eqb-true}
 use Rattle.drawing_spec.proofs.Members.{either}
-use Rattle.graph_spec.specs.Degree.{one, hit}
+use Rattle.graph_spec.specs.Odd.{one, hit}
 use Rattle.graph_spec.proofs.Sums.{hit-same}
 use Rattle.graph_spec.proofs.Occurs.{count}
 use Rattle.repair_spec.specs.Pairing.{Pair, pair, Matching, Choice, none, chosen, cheaper, choiceOf, without, partner, matchAll, leaveWith, leaveTwo, optimalPairs}

@@ -13,7 +13,7 @@ use borrow.Author.Tests.{ltb-true, ltb-false}
 use Rattle.drawing_spec.specs.Drawing.{Point}
 use Rattle.drawing_spec.proofs.Members.{either, set-cases}
 use Rattle.graph_spec.specs.Chain.{squared}
-use Rattle.graph_spec.specs.Degree.{hit}
+use Rattle.graph_spec.specs.Odd.{hit}
 use Rattle.graph_spec.proofs.Occurs.{count}
 use Rattle.repair_spec.specs.Pairing.{Pair, pair, Closest, nothing, between, closer, closestTo, closest, swapRemove, greedyPairs, noPoint}
 

@@ -13,7 +13,7 @@ use Rattle.drawing_spec.specs.Drawing.{Settings, optimal, closing}
 use Rattle.drawing_spec.proofs.Members.{either}
 use Rattle.drawing_spec.specs.Members.{In}
 use Rattle.graph_spec.specs.Graph.{Edge, Graph}
-use Rattle.graph_spec.specs.Degree.{hit, degree, oddNodes}
+use Rattle.graph_spec.specs.Odd.{hit, degree, oddNodes}
 use Rattle.graph_spec.specs.Ways.{Inside}
 use Rattle.graph_spec.proofs.Odd.{oddNodes-member}
 use Rattle.graph_spec.proofs.Sums.{hit-same}

@@ -15,7 +15,7 @@ use Rattle.sums.proofs.KeyLaws.{key-top}
 use Rattle.sums.proofs.Sum.{add-above, add-mono, zero-nonneg, zero-key, inf-nonneg}
 use Rattle.drawing_spec.proofs.Members.{set-cases, getD-same}
 use Rattle.graph_spec.specs.Graph.{Edge}
-use Rattle.graph_spec.specs.Degree.{one}
+use Rattle.graph_spec.specs.Odd.{one}
 use Rattle.graph_spec.specs.Count.{sumOver}
 use Rattle.graph_spec.specs.Ways.{Inside}
 use Rattle.graph_spec.proofs.Connected.{joins-inside}

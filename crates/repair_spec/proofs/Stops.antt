@@ -10,7 +10,7 @@ use Rattle.limits.specs.Limits.{refusedPath}
 use Rattle.drawing_spec.specs.Drawing.{Settings, closing}
 use Rattle.drawing_spec.proofs.Members.{either}
 use Rattle.graph_spec.specs.Graph.{Graph}
-use Rattle.graph_spec.specs.Degree.{oddNodes}
+use Rattle.graph_spec.specs.Odd.{oddNodes}
 use Rattle.repair_spec.specs.Distance.{zeroLength}
 use Rattle.repair_spec.specs.Retrace.{Path, found, error, shortestPath}
 use Rattle.repair_spec.specs.Pairing.{Pair, pair}

@@ -1,14 +1,16 @@
 -- Which odd nodes are paired, and which way each retrace goes.
--- Definitions:
+-- least distances:
 pub mod Distance
+-- the shortest path between two nodes, from its end back:
 pub mod Retrace
+-- the copies laid along it:
+pub mod Copies
+-- which nodes are paired, by Greedy and by Optimal:
 pub mod Pairing
 pub mod PairsIn
+-- fix_parity, of these, and conditions 10 and 11:
 pub mod Repair
--- Distances are the least over all ways (Cost says what a way costs, Rounds has the argument, Least the theorem):
+-- Predicates that contracts and laws name: the least cost of all ways, what a search keeps to, and what it finds up to a limit:
 pub mod Cost
 pub mod Relax
 pub mod Rounds
-
--- A retrace leads along edges, and what its copies change:
--- The pairs use all odd nodes but two, and what repair leaves odd (Repaired has the theorem):

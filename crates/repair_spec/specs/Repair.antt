@@ -8,9 +8,10 @@ use lib.Ieee.{Float, binary64, add}
 use Rattle.drawing_spec.specs.Drawing.{Settings, optimal, closing}
 use Rattle.limits.specs.Limits.{refusedPath}
 use Rattle.graph_spec.specs.Graph.{Edge, Graph}
-use Rattle.graph_spec.specs.Degree.{oddNodes, oddFrom}
+use Rattle.graph_spec.specs.Odd.{oddNodes, oddFrom}
 use Rattle.repair_spec.specs.Distance.{distances, distanceAt, infinity, zeroLength}
-use Rattle.repair_spec.specs.Retrace.{found, error, shortestPath, layPath}
+use Rattle.repair_spec.specs.Retrace.{found, error, shortestPath}
+use Rattle.repair_spec.specs.Copies.{layPath}
 use Rattle.repair_spec.specs.Pairing.{Pair, pair, greedyPairs, optimalPairs}
 
 -- the graph's edges with the copies, the retraces that laid them, in order, and the length of the retraces

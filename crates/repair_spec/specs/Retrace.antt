@@ -1,11 +1,11 @@
--- A retrace: the shortest path between the two nodes of a pair, found from its end back, and the copies laid along it.
+-- A retrace: the shortest path between the two nodes of a pair, found from its end back.
 use Prim.Native.Nat.{ℕ, zero, suc, _^_}
-use mathlib.Core.List.{List, [], _∷_, _++_}
+use mathlib.Core.List.{List, [], _∷_}
 use mathlib.Core.Bool.{Bool, true, false, _&&_, _||_, not}
 use lib.Dec.{eqb}
 use lib.Ieee.{Float, nan, inf, fin, binary64, add, sub, lt, round}
-use Rattle.graph_spec.specs.Graph.{Edge, edge, Arc, edgesAt}
-use Rattle.repair_spec.specs.Distance.{distanceAt, distances, zeroLength}
+use Rattle.graph_spec.specs.Graph.{Edge, Arc, edgesAt}
+use Rattle.repair_spec.specs.Distance.{distanceAt, distances}
 
 abbrev pub magnitude : Float → Float
 magnitude nan = nan
@@ -54,28 +54,3 @@ wayBack (suc k) es ds s v after =
 unfoldable pub shortestPath : ℕ → List Edge → ℕ → ℕ → Path
 unfolding wayBack distances
 shortestPath n es s t = wayBack n es (distances n es s) s t []
-
--- ---- copies
-
--- the weight of the first of a node's edges that leads to v
-unfoldable pub weightTo : ℕ → List Arc → Float
-weightTo v [] = zeroLength
-weightTo v (r ∷ rs) = elim (eqb (r .to) v) [ true ↦ r .weight | false ↦ weightTo v rs ]
-
--- a graph's edges, the copies last, and the running sum of the copies' weights
-pub record Laid : Type 0 where
-  pub edges : List Edge
-  pub sum : Float
-
--- one copy for each edge of a path, which goes on from u
-unfoldable pub lay : ℕ → List ℕ → Laid → Laid
-unfolding weightTo edgesAt add
-lay u [] l = l
-lay u (v ∷ vs) l =
-    let w = weightTo v (edgesAt (l .edges) u) in
-    lay v vs (record { edges = l .edges ++ (edge u v w ∷ []); sum = add binary64 (l .sum) w })
-
-unfoldable pub layPath : List ℕ → Laid → Laid
-unfolding lay
-layPath [] l = l
-layPath (u ∷ vs) l = lay u vs l

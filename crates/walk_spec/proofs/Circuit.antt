@@ -10,7 +10,7 @@ use native.Mathlib.Omega.{arith}
 use lib.ListN.{length, replicate, getD-replicate}
 use Rattle.drawing_spec.proofs.Members.{all-in, all-map}
 use Rattle.graph_spec.specs.Graph.{Edge}
-use Rattle.graph_spec.specs.Degree.{hit, degree}
+use Rattle.graph_spec.specs.Odd.{hit, degree}
 use Rattle.graph_spec.specs.Count.{sumOver, stepSum, lineSum, lastFrom, joint, joining}
 use Rattle.graph_spec.specs.Ways.{Joins, Reach, here, on}
 use Rattle.drawing_spec.specs.Members.{In}

@@ -7,7 +7,8 @@ use Rattle.drawing_spec.specs.Drawing.{Point, Settings}
 use Rattle.graph_spec.specs.Graph.{Edge, edge}
 use Rattle.repair_spec.specs.Distance.{zeroLength}
 use Rattle.walk_spec.specs.Walk.{Entry, circuit}
-use Rattle.walk_spec.specs.Line.{orient, lineOf}
+use Rattle.walk_spec.specs.Orient.{orient}
+use Rattle.walk_spec.specs.Line.{lineOf}
 
 -- in pixels, on a canvas of 10 by 10
 abbrev at : ℕ → ℕ → Point

@@ -7,7 +7,7 @@ use Prim.Native.Nat.{ℕ, _+_, _<_}
 use native.Mathlib.Omega.{arith}
 use lib.ListN.{length, getD}
 use Rattle.graph_spec.specs.Graph.{Edge, Arc, edgesAt}
-use Rattle.graph_spec.specs.Degree.{hit}
+use Rattle.graph_spec.specs.Odd.{hit}
 use Rattle.graph_spec.specs.Ways.{Joins}
 use Rattle.drawing_spec.specs.Members.{In}
 use Rattle.graph_spec.proofs.Sums.{hit-other}

@@ -8,10 +8,9 @@ use Rattle.center.specs.Center.{better}
 use Rattle.drawing_spec.specs.Drawing.{Point, Settings, inside}
 use Rattle.drawing_spec.specs.Members.{All}
 use Rattle.drawing_spec.proofs.Members.{either}
-use Rattle.graph_spec.specs.Graph.{Edge}
-use Rattle.graph_spec.specs.Degree.{degree}
-use Rattle.walk_spec.specs.Line.{distance, bestOf, best, withEdges}
-use Rattle.graph_spec.specs.Graph.{pointAt}
+use Rattle.graph_spec.specs.Graph.{Edge, pointAt}
+use Rattle.graph_spec.specs.Odd.{degree}
+use Rattle.walk_spec.specs.Start.{distance, bestOf, best, withEdges}
 
 module _ (P : ℕ → Type 0) (s : Settings) (ns : List Point) where
   bestOf-keeps : (v : ℕ) (vs : List ℕ) → P v → All P vs → P (bestOf s ns v vs)

@@ -12,7 +12,7 @@ use lib.Ieee.{Float}
 use Rattle.drawing_spec.specs.Drawing.{Point, Settings}
 use Rattle.drawing_spec.proofs.Members.{in-left, in-append}
 use Rattle.graph_spec.specs.Graph.{Edge, edge}
-use Rattle.graph_spec.specs.Degree.{hit, degree, oddNodes}
+use Rattle.graph_spec.specs.Odd.{hit, degree, oddNodes}
 use Rattle.graph_spec.specs.Count.{lineSum, lastFrom, joint, joining}
 use Rattle.graph_spec.specs.Ways.{Inside, Joins, Reach}
 use Rattle.drawing_spec.specs.Members.{In, All}
@@ -21,9 +21,10 @@ use Rattle.graph_spec.proofs.Odd.{oddNodes-member, oddNodes-ascends, even-else}
 use Rattle.graph_spec.proofs.Connected.{reach-trans, reach-sym, joined-more, reach-more}
 use Rattle.repair_spec.specs.Distance.{zeroLength}
 use Rattle.walk_spec.specs.Walk.{Entry, circuit}
-use Rattle.walk_spec.specs.Line.{best, withEdges, euler, hierholzer}
+use Rattle.walk_spec.specs.Start.{best, withEdges}
+use Rattle.walk_spec.specs.Line.{euler, hierholzer}
 use Rattle.walk_spec.proofs.Circuit.{nodesOf, Circuit, circuit-is, circuit-steps, circuit-count, trail-last}
-use Rattle.walk_spec.proofs.Cut.{CutLine, cut-line, trail-within}
+use Rattle.walk_spec.proofs.VirtualStep.{CutLine, cut-line, trail-within}
 use Rattle.walk_spec.proofs.Start.{best-keeps, withEdges-within}
 
 -- what holds of the line of nodes through a graph of n nodes

@@ -11,7 +11,7 @@ use lib.ListN.{length, set}
 use Rattle.drawing_spec.specs.Members.{All}
 use Rattle.drawing_spec.proofs.Members.{all-imp}
 use Rattle.graph_spec.specs.Graph.{Edge}
-use Rattle.graph_spec.specs.Degree.{hit}
+use Rattle.graph_spec.specs.Odd.{hit}
 use Rattle.graph_spec.specs.Count.{sumOver}
 use Rattle.graph_spec.specs.Ways.{Joins}
 use Rattle.graph_spec.proofs.Sums.{hit-same, hit-le, hit-eq, joins-hit}

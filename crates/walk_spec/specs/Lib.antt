@@ -1,7 +1,11 @@
 -- Which line is drawn through the repaired graph.
--- Definitions:
+-- Hierholzer's walk:
 pub mod Walk
+-- where it starts:
+pub mod Start
+-- which of its steps is cut:
+pub mod VirtualStep
+-- which end of the line comes first:
+pub mod Orient
+-- the line, of these:
 pub mod Line
-
--- The walk goes along each edge once, and the cut loses the virtual step alone (Traced has the theorem):
--- Turning the line round:

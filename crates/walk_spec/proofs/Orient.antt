@@ -11,7 +11,8 @@ use Rattle.drawing_spec.specs.Members.{All}
 use Rattle.drawing_spec.proofs.Members.{either}
 use Rattle.graph_spec.specs.Count.{lineSum, lastFrom}
 use Rattle.graph_spec.proofs.Lines.{lineSum-reverse, Runs, runs-reverse, all-reverse}
-use Rattle.walk_spec.specs.Line.{distance, EndPoints, ends, empty, endPoints, orient}
+use Rattle.walk_spec.specs.Start.{distance}
+use Rattle.walk_spec.specs.Orient.{EndPoints, ends, empty, endPoints, orient}
 
 -- a line turned is the line as it is, or reversed, so what holds of both holds of it
 pub orient-keeps : (P : List Point → Type 0) (s : Settings) (line : List Point) → P line → P (reverse line) → P (orient s line)
