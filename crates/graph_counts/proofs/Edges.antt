@@ -10,9 +10,10 @@ use borrow.Author.Tests.{eqb-true, eqb-false, ne-eqb}
 use Rattle.drawing_spec.specs.Drawing.{Point, same, End, Link, Drawing}
 use Rattle.drawing_spec.proofs.Members.{either}
 use Rattle.drawing_spec.specs.Read.{total}
-use Rattle.graph_spec.specs.Chain.{squared, stroke, naming, splits, insert, sort, inner, changes, distinct, chain, pieces, linePieces, piecesFrom, piecesOf, linkStrokes, linksOf, strokesOf}
+use Rattle.graph_spec.specs.Chain.{squared, naming, splits, insert, sort, inner, changes, distinct, chain}
+use Rattle.graph_spec.specs.Pieces.{stroke, pieces, linePieces, piecesFrom, piecesOf, linkStrokes, linksOf, strokesOf}
 use Rattle.graph_spec.specs.Graph.{edgeOf, buildGraph}
-use Rattle.graph_spec.specs.Degree.{one}
+use Rattle.graph_spec.specs.Odd.{one}
 
 -- the points of all lines
 abbrev pub pointsOf : Drawing → ℕ

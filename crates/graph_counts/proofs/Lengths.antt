@@ -18,7 +18,8 @@ use Rattle.drawing_spec.proofs.Same.{differ}
 use Rattle.drawing_spec.specs.Members.{In, All}
 use Rattle.drawing_spec.proofs.Members.{all-in, all-map, all-imp}
 use Rattle.drawing_spec.specs.OnGrid.{OnGrid, AtEnds}
-use Rattle.graph_spec.specs.Chain.{squared, strokesOf}
+use Rattle.graph_spec.specs.Chain.{squared}
+use Rattle.graph_spec.specs.Pieces.{strokesOf}
 use Rattle.graph_spec.specs.Graph.{Edge, edgeOf, buildGraph}
 use Rattle.graph_spec.proofs.Strokes.{Between, strokes-between, uses-of-all}
 use Rattle.graph_spec.proofs.Built.{built-inside, built-weights}

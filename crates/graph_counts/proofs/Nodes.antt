@@ -13,7 +13,7 @@ use Rattle.drawing_spec.specs.Accepted.{Counts}
 use Rattle.drawing_spec.proofs.Accepted.{counts-fit, accepted-fits}
 use Rattle.drawing_spec.specs.Refusal.{accepted, verdict}
 use Rattle.drawing_spec.specs.OnGrid.{AtEnds}
-use Rattle.graph_spec.specs.Chain.{usesOf}
+use Rattle.graph_spec.specs.Pieces.{usesOf}
 use Rattle.graph_spec.specs.Graph.{pointAt, buildGraph}
 use Rattle.graph_spec.proofs.Nodes.{distinct, uses-all}
 use Rattle.graph_spec.proofs.Strokes.{uses-of-all}

@@ -9,7 +9,8 @@ use lib.ListN.{length, length-append}
 use borrow.Author.Tests.{lt-ltb, le-ltb}
 use Rattle.length.specs.Root.{lengthOf}
 use Rattle.drawing_spec.specs.Drawing.{Point, same, Link, Drawing}
-use Rattle.graph_spec.specs.Chain.{Stroke, stroke, squared, splits, sort, inner, distinct, chain, pieces, linePieces, lineUses, piecesFrom, usesFrom, piecesOf, linkStrokes, linksOf, strokesOf, linkUses, usesOf}
+use Rattle.graph_spec.specs.Pieces.{Stroke, stroke, pieces, linePieces, lineUses, piecesFrom, usesFrom, piecesOf, linkStrokes, linksOf, strokesOf, linkUses, usesOf}
+use Rattle.graph_spec.specs.Chain.{squared, splits, sort, inner, distinct, chain}
 use Rattle.graph_spec.specs.Graph.{Edge, edge, edgeOf, nodeOf, getOrInsert, firstUses, buildGraph}
 use Rattle.graph_spec.specs.Nodes.{IsNode}
 use Rattle.graph_spec.proofs.Nodes.{front, behind}

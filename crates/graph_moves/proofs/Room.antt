@@ -3,7 +3,7 @@ use mathlib.Core.List.{List, [], _∷_, map}
 use native.Mathlib.Omega.{arith}
 use lib.ListN.{length-append}
 use Rattle.drawing_spec.specs.Drawing.{Point}
-use Rattle.graph_spec.specs.Chain.{pieces}
+use Rattle.graph_spec.specs.Pieces.{pieces}
 use Rattle.graph_spec.specs.Graph.{Graph, edgeOf, getOrInsert}
 use Rattle.graph_moves.specs.Moves.{Move, start, on, to, moved, along}
 use Rattle.graph_moves.proofs.Built.{longer}

@@ -2,7 +2,7 @@
 use mathlib.Core.List.{List, [], _∷_, _++_, map}
 use Prim.Native.Nat.{ℕ, suc}
 use Rattle.drawing_spec.specs.Drawing.{Point}
-use Rattle.graph_spec.specs.Chain.{pieces}
+use Rattle.graph_spec.specs.Pieces.{pieces}
 use Rattle.graph_spec.specs.Graph.{Edge, Graph, edgeOf, getOrInsert}
 use Rattle.graph_spec.specs.Nodes.{IsNode}
 

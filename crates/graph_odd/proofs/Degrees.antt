@@ -12,7 +12,7 @@ use lib.Ieee.{nan}
 use Rattle.limits.specs.Limits.{mostNodes, edgeRoom}
 use Rattle.drawing_spec.proofs.Members.{getD-same, set-cases}
 use Rattle.graph_spec.specs.Graph.{Edge, edge}
-use Rattle.graph_spec.specs.Degree.{hit, degree}
+use Rattle.graph_spec.specs.Odd.{hit, degree}
 use Rattle.graph_spec.proofs.Sums.{hit-same, hit-other, hit-le}
 use Rattle.graph_spec.proofs.EdgesAt.{edgeAt}
 use Rattle.graph_adjacency.specs.Lists.{Adjacency}

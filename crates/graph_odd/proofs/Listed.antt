@@ -11,7 +11,7 @@ use lib.Seq.{sets, sets-eq, take-append-seam}
 use borrow.Author.Tests.{eq-eqb, ne-eqb}
 use Rattle.limits.specs.Limits.{mostNodes}
 use Rattle.graph_spec.specs.Graph.{Edge}
-use Rattle.graph_spec.specs.Degree.{degree, isOdd, oddFrom, oddNodes}
+use Rattle.graph_spec.specs.Odd.{degree, isOdd, oddFrom, oddNodes}
 use Rattle.graph_arrays.specs.Arrays.{Front}
 
 abbrev pub cleared : List ℕ

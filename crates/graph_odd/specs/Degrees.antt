@@ -5,7 +5,7 @@ use Prim.Native.Nat.{ℕ, _+_, _*_, _≤_, _<_}
 use lib.ListN.{getD, set}
 use Rattle.limits.specs.Limits.{mostNodes, edgeRoom}
 use Rattle.graph_spec.specs.Graph.{Edge}
-use Rattle.graph_spec.specs.Degree.{degree}
+use Rattle.graph_spec.specs.Odd.{degree}
 
 -- the edge i has nodes as its ends, and no degree is near the largest number
 pub record Countable (i : ℕ) (ends ds : List ℕ) : Type 0 where

@@ -3,7 +3,7 @@ ghost use mathlib.Core.Path.{_≡_};
 ghost use Prim.Native.Nat.{_+_};
 ghost use lib.ListN.{getD, replicate};
 ghost use Rattle.limits.specs.Limits.{mostNodes, edgeRoom};
-ghost use Rattle.graph_spec.specs.Degree.{oddNodes};
+ghost use Rattle.graph_spec.specs.Odd.{oddNodes};
 ghost use Rattle.graph_adjacency.specs.Lists.{adjacency};
 ghost use Rattle.graph_arrays.specs.Arrays.{edgesIn, EdgesLinked, Front};
 ghost use Rattle.graph_odd.specs.Degrees.{Countable, bumped, Degrees};

@@ -8,7 +8,7 @@ use lib.ListN.{length}
 use lib.Dec.{ltb}
 use Rattle.limits.specs.Limits.{mostNodes}
 use Rattle.drawing_spec.specs.Drawing.{Point}
-use Rattle.graph_spec.specs.Chain.{pieces}
+use Rattle.graph_spec.specs.Pieces.{pieces}
 use Rattle.graph_spec.specs.Graph.{Edge, edgeOf, find, nodeOf, getOrInsert}
 use Rattle.graph_spec.proofs.Nodes.{front}
 use Rattle.graph_nodes.specs.Table.{Table, HasRoom, noNodes, numberIn, tableWith, countWith}

@@ -7,7 +7,8 @@ use lib.ListN.{length, length-append}
 use lib.Ieee.{Float}
 use Rattle.length.specs.Root.{lengthOf}
 use Rattle.drawing_spec.specs.Drawing.{Point, same}
-use Rattle.graph_spec.specs.Chain.{stroke, squared, pieces}
+use Rattle.graph_spec.specs.Pieces.{stroke, pieces}
+use Rattle.graph_spec.specs.Chain.{squared}
 use Rattle.graph_spec.specs.Graph.{Edge, edgeOf, nodeOf}
 use Rattle.graph_adjacency.specs.Lists.{Adjacency, push, lists}
 use Rattle.graph_adjacency.proofs.Follow.{lists-push}

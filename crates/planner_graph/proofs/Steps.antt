@@ -12,7 +12,7 @@ use Rattle.sums.specs.Key.{Nonneg}
 use Rattle.drawing_spec.specs.Drawing.{Point, Settings}
 use Rattle.drawing_spec.specs.Refusal.{Condition, condition, Verdict, refused, accepted, verdict}
 use Rattle.graph_spec.specs.Graph.{Edge, Graph}
-use Rattle.graph_spec.specs.Degree.{oddNodes}
+use Rattle.graph_spec.specs.Odd.{oddNodes}
 use Rattle.graph_spec.specs.Reach.{allReached}
 use Rattle.graph_spec.specs.Weights.{Searchable}
 use Rattle.repair_spec.specs.Repair.{Repair, Repairing, stopped, repaired, tooManyOdd, tableShort, fixParity}

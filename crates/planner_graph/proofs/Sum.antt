@@ -12,9 +12,10 @@ use Rattle.limits.specs.Limits.{refusedPath}
 use Rattle.drawing_spec.specs.Drawing.{Settings, closing}
 use Rattle.drawing_spec.proofs.Members.{either}
 use Rattle.graph_spec.specs.Graph.{Graph}
-use Rattle.graph_spec.specs.Degree.{oddNodes}
+use Rattle.graph_spec.specs.Odd.{oddNodes}
 use Rattle.repair_spec.specs.Distance.{zeroLength}
-use Rattle.repair_spec.specs.Retrace.{Path, found, error, shortestPath, Laid, layPath}
+use Rattle.repair_spec.specs.Retrace.{Path, found, error, shortestPath}
+use Rattle.repair_spec.specs.Copies.{Laid, layPath}
 use Rattle.repair_spec.proofs.Along.{shortest-along}
 use Rattle.repair_spec.proofs.Copies.{lay-nonneg}
 use Rattle.repair_spec.specs.Pairing.{Pair, pair}

@@ -13,14 +13,14 @@ use Rattle.limits.specs.Limits.{mostEdges, refusedEdges}
 use Rattle.drawing_spec.specs.Drawing.{Settings, closing}
 use Rattle.drawing_spec.proofs.Accepted.{Fits, accepted-fits}
 use Rattle.graph_spec.specs.Graph.{Edge, Graph, buildGraph}
-use Rattle.graph_spec.specs.Degree.{oddNodes}
+use Rattle.graph_spec.specs.Odd.{oddNodes}
 use Rattle.graph_spec.specs.Reach.{allReached}
 use Rattle.graph_spec.specs.Weights.{Searchable}
 use Rattle.graph_spec.proofs.Handshake.{handshake}
 use Rattle.graph_spec.proofs.Occurs.{count}
 use Rattle.graph_spec.proofs.Sums.{hit-same}
 use Rattle.repair_spec.specs.Distance.{distanceAt, distances}
-use Rattle.repair_spec.specs.Retrace.{Laid}
+use Rattle.repair_spec.specs.Copies.{Laid}
 use Rattle.repair_spec.specs.Pairing.{Pair}
 use Rattle.repair_spec.specs.Repair.{Repair, Repairing, repaired, applyMatching, rows, distanceIn, pairsOf, closeIf, drawn, fixParity}
 use Rattle.repair_spec.proofs.Least.{least-distance}

@@ -10,7 +10,7 @@ use Rattle.limits.specs.Limits.{mostEdges, refusedEdges}
 use Rattle.sums.specs.Key.{key}
 use Rattle.drawing_spec.specs.Drawing.{Settings, closing}
 use Rattle.graph_spec.specs.Graph.{Edge, Graph, buildGraph}
-use Rattle.graph_spec.specs.Degree.{oddNodes}
+use Rattle.graph_spec.specs.Odd.{oddNodes}
 use Rattle.graph_spec.specs.Count.{sumOver}
 use Rattle.repair_spec.specs.Distance.{infinity, distanceAt, distances}
 use Rattle.repair_spec.specs.Cost.{Least}

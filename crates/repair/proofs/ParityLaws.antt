@@ -10,7 +10,7 @@ use Rattle.limits.specs.Limits.{mostPairs}
 use Rattle.drawing_spec.specs.Drawing.{Settings, closing}
 use Rattle.drawing_spec.specs.Refusal.{Verdict, refused, accepted, verdict}
 use Rattle.graph_spec.specs.Graph.{Graph}
-use Rattle.graph_spec.specs.Degree.{oddNodes}
+use Rattle.graph_spec.specs.Odd.{oddNodes}
 use Rattle.graph_adjacency.specs.Lists.{Adjacency}
 use Rattle.graph_arrays.specs.Arrays.{pointIn, nodesIn, edgesIn, graphIn, EdgesHeld}
 use Rattle.graph_arrays.proofs.Tabulate.{tabulate-length}

@@ -6,7 +6,7 @@ use lib.Ieee.{Float}
 use Rattle.drawing_spec.specs.Drawing.{Settings}
 use Rattle.drawing_spec.specs.Refusal.{refused, accepted, verdict}
 use Rattle.graph_spec.specs.Graph.{Edge, Graph}
-use Rattle.graph_spec.specs.Degree.{oddNodes}
+use Rattle.graph_spec.specs.Odd.{oddNodes}
 use Rattle.repair_spec.specs.Repair.{fixParity}
 use Rattle.repair_retrace.specs.Outcome as repair
 use Rattle.repair_retrace.specs.Outcome.{Outcome, outcome}

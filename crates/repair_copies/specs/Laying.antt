@@ -4,7 +4,7 @@ use Prim.Native.Nat.{ℕ, _-_}
 use lib.Ieee.{Float}
 use Rattle.limits.specs.Limits.{mostNodes}
 use Rattle.graph_spec.specs.Graph.{Edge}
-use Rattle.repair_spec.specs.Retrace.{Laid}
+use Rattle.repair_spec.specs.Copies.{Laid}
 
 abbrev pub laidOf : List Edge → Float → Laid
 laidOf es x = record { edges = es; sum = x }

@@ -6,7 +6,7 @@ ghost use lib.Ieee.{nan};
 ghost use Rattle.limits.specs.Limits.{mostNodes, edgeRoom};
 ghost use Rattle.graph_adjacency.specs.Lists.{adjacency, edgeNumber};
 ghost use Rattle.graph_arrays.specs.Arrays.{edgesIn, EdgesLinked};
-ghost use Rattle.repair_spec.specs.Retrace.{layPath};
+ghost use Rattle.repair_spec.specs.Copies.{layPath};
 ghost use Rattle.repair_copies.specs.Laying.{laidOf, copiesFrom};
 use limits::ARC_ROOM;
 use limits::EDGE_ROOM;

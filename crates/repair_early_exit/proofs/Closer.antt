@@ -10,7 +10,7 @@ use lib.Dec.{ltb}
 use borrow.Author.Tests.{ltb-true, ltb-false, lt-ltb, le-ltb}
 use lib.Ieee.{Float, binary64}
 use Rattle.sums.specs.Key.{key}
-use Rattle.graph_spec.specs.Degree.{one}
+use Rattle.graph_spec.specs.Odd.{one}
 use Rattle.repair_spec.specs.Relax.{keyAt}
 
 pub closer : ℕ → List Float → ℕ

@@ -11,7 +11,8 @@ use Rattle.limits.specs.Limits.{refusedPath}
 use Rattle.graph_spec.specs.Graph.{Edge, edgesAt}
 use Rattle.graph_spec.specs.Ways.{Walks}
 use Rattle.repair_spec.specs.Distance.{distanceAt, distances}
-use Rattle.repair_spec.specs.Retrace.{Path, Step, to, none, found, error, stepBack, wayBack, shortestPath, Laid, lay, layPath}
+use Rattle.repair_spec.specs.Retrace.{Path, Step, to, none, found, error, stepBack, wayBack, shortestPath}
+use Rattle.repair_spec.specs.Copies.{Laid, lay, layPath}
 use Rattle.repair_spec.proofs.Along.{shortest-along}
 use Rattle.repair_spec.proofs.Copies.{lay-copied, lay-inside, lay-weights, lay-count}
 use Rattle.repair_spec.specs.Pairing.{Pair}

@@ -12,7 +12,7 @@ use Rattle.limits.specs.Limits.{refusedPath}
 use Rattle.drawing_spec.specs.Drawing.{Settings, closing}
 use Rattle.drawing_spec.proofs.Members.{either}
 use Rattle.graph_spec.specs.Graph.{Edge, Graph}
-use Rattle.graph_spec.specs.Degree.{oddNodes}
+use Rattle.graph_spec.specs.Odd.{oddNodes}
 use Rattle.graph_spec.specs.Ways.{Reach}
 use Rattle.graph_spec.proofs.Sums.{hit-same}
 use Rattle.graph_spec.specs.Reach.{allReached}
@@ -21,7 +21,8 @@ use Rattle.graph_spec.proofs.Reached.{all-reached}
 use Rattle.graph_spec.proofs.Handshake.{handshake}
 use Rattle.graph_spec.proofs.Occurs.{count}
 use Rattle.repair_spec.specs.Distance.{zeroLength}
-use Rattle.repair_spec.specs.Retrace.{Path, found, error, shortestPath, Laid, layPath}
+use Rattle.repair_spec.specs.Retrace.{Path, found, error, shortestPath}
+use Rattle.repair_spec.specs.Copies.{Laid, layPath}
 use Rattle.repair_spec.proofs.Copies.{lay-old}
 use Rattle.repair_spec.specs.Pairing.{Pair, pair}
 use Rattle.repair_spec.specs.Repair.{Repair, Repairing, stopped, repaired, withSum, addSum, retraced, applyMatching, pairsOf, close, closeIf, drawn, fixParity}

@@ -11,7 +11,7 @@ use lib.Count.{ones}
 use lib.Ieee.{Float}
 use borrow.Author.Tests.{ltb-true, ltb-false}
 use Rattle.graph_spec.specs.Graph.{Edge}
-use Rattle.graph_spec.specs.Degree.{oddFrom, oddNodes}
+use Rattle.graph_spec.specs.Odd.{oddFrom, oddNodes}
 use Rattle.graph_spec.proofs.Handshake.{odd-step}
 use Rattle.repair_masks.specs.Places.{nodeAt, optimalPlaces}
 use Rattle.repair_masks.proofs.Places.{Apart}

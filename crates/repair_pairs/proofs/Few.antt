@@ -10,7 +10,7 @@ use lib.Ieee.{Float}
 use borrow.Author.Tests.{leb-true}
 use Rattle.drawing_spec.specs.Drawing.{Settings, optimal, closing}
 use Rattle.graph_spec.specs.Graph.{Graph}
-use Rattle.graph_spec.specs.Degree.{oddNodes}
+use Rattle.graph_spec.specs.Odd.{oddNodes}
 use Rattle.repair_spec.specs.Pairing.{Pair, none, without, matchAll, leaveTwo, leaveWith, cheaper, choiceOf, optimalPairs, greedyPairs}
 use Rattle.repair_spec.specs.Repair.{Repairing, rows, distanceIn, pairsOf, drawn, applyMatching, closeIf, fixParity}
 use Rattle.repair_masks.proofs.Places.{without-yes}

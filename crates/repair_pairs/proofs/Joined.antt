@@ -9,7 +9,7 @@ use lib.ListN.{length, getD, take}
 use lib.Ieee.{Float}
 use Rattle.drawing_spec.specs.Members.{In}
 use Rattle.graph_spec.specs.Graph.{Edge}
-use Rattle.graph_spec.specs.Degree.{oddNodes}
+use Rattle.graph_spec.specs.Odd.{oddNodes}
 use Rattle.graph_spec.proofs.Odd.{oddNodes-member}
 use Rattle.graph_spec.proofs.Handshake.{handshake}
 use Rattle.graph_adjacency.specs.Lists.{Adjacency}

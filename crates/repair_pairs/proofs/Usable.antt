@@ -11,7 +11,7 @@ use Rattle.limits.specs.Limits.{mostNodes, mostPairs}
 use Rattle.drawing_spec.specs.Drawing.{Settings, optimal}
 use Rattle.drawing_spec.proofs.Members.{either}
 use Rattle.graph_spec.specs.Graph.{Edge, Graph}
-use Rattle.graph_spec.specs.Degree.{hit, oddNodes}
+use Rattle.graph_spec.specs.Odd.{hit, oddNodes}
 use Rattle.graph_spec.proofs.Sums.{hit-same, HitCases, hit-cases}
 use Rattle.graph_spec.proofs.Handshake.{handshake}
 use Rattle.graph_spec.proofs.Occurs.{count, count-outside}

@@ -5,7 +5,7 @@ use lib.ListN.{length}
 use Rattle.drawing_spec.specs.Drawing.{Settings}
 use Rattle.drawing_spec.specs.Refusal.{refused, accepted, verdict}
 use Rattle.graph_spec.specs.Graph.{Graph}
-use Rattle.graph_spec.specs.Degree.{oddNodes}
+use Rattle.graph_spec.specs.Odd.{oddNodes}
 use Rattle.repair_spec.specs.Pairing.{Pair}
 use Rattle.repair_spec.specs.Repair.{pairsOf}
 use Rattle.repair_pairs.specs.Refusal.{tableConditions}

@@ -4,7 +4,7 @@ ghost use mathlib.Core.Path.{_≡_};
 ghost use Prim.Native.Nat.{_<_};
 ghost use lib.ListN.{length};
 ghost use Rattle.file_records.specs.Meaning.{settingsOf};
-ghost use Rattle.graph_spec.specs.Degree.{oddNodes};
+ghost use Rattle.graph_spec.specs.Odd.{oddNodes};
 ghost use Rattle.graph_adjacency.specs.Lists.{adjacency};
 ghost use Rattle.graph_arrays.specs.Arrays.{edgesIn, graphIn, EdgesHeld, NodesHeld, Front};
 ghost use Rattle.repair_spec.specs.Pairing.{optimalPairs};

@@ -11,7 +11,8 @@ use Rattle.graph_spec.specs.Weights.{Searchable}
 use Rattle.graph_adjacency.specs.Lists.{Adjacency}
 use Rattle.graph_arrays.specs.Arrays.{edgesIn, EdgesLinked, EdgesHeld}
 use Rattle.graph_arrays.proofs.Arrays.{edges-count}
-use Rattle.repair_spec.specs.Retrace.{found, error, shortestPath, Laid, layPath}
+use Rattle.repair_spec.specs.Retrace.{found, error, shortestPath}
+use Rattle.repair_spec.specs.Copies.{Laid, layPath}
 use Rattle.repair_spec.specs.Pairing.{pair}
 use Rattle.repair_spec.specs.Repair.{Repairing, applyMatching}
 use Rattle.repair_early_exit.proofs.Laid.{retrace-searchable}

@@ -9,7 +9,8 @@ use lib.Ieee.{Float}
 use borrow.Author.Tests.{le-leb, lt-leb}
 use Rattle.limits.specs.Limits.{refusedPath}
 use Rattle.graph_spec.specs.Graph.{Edge}
-use Rattle.repair_spec.specs.Retrace.{Path, found, error, shortestPath, layPath}
+use Rattle.repair_spec.specs.Retrace.{Path, found, error, shortestPath}
+use Rattle.repair_spec.specs.Copies.{layPath}
 use Rattle.repair_spec.specs.Pairing.{Pair}
 use Rattle.repair_spec.specs.Repair.{Repair, Repairing, stopped, retraced, applyMatching}
 use Rattle.repair_early_exit.proofs.Laid.{counted, apply-counted}

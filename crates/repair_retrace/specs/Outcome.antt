@@ -3,7 +3,7 @@ use mathlib.Core.List.{List, []}
 use Prim.Native.Nat.{ℕ}
 use lib.Ieee.{Float}
 use Rattle.graph_spec.specs.Graph.{Edge}
-use Rattle.repair_spec.specs.Retrace.{Laid}
+use Rattle.repair_spec.specs.Copies.{Laid}
 use Rattle.repair_spec.specs.Repair.{Repair, Repairing, stopped, repaired}
 use Rattle.repair_copies.specs.Laying.{laidOf}
 

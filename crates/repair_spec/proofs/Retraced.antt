@@ -10,7 +10,8 @@ use lib.Ieee.{Float}
 use Rattle.limits.specs.Limits.{mostEdges}
 use Rattle.graph_spec.specs.Graph.{Edge, edgesAt}
 use Rattle.repair_spec.specs.Distance.{distanceAt, distances}
-use Rattle.repair_spec.specs.Retrace.{Step, to, none, found, error, stepBack, wayBack, shortestPath, Laid, lay, layPath}
+use Rattle.repair_spec.specs.Retrace.{Step, to, none, found, error, stepBack, wayBack, shortestPath}
+use Rattle.repair_spec.specs.Copies.{Laid, lay, layPath}
 use Rattle.repair_spec.proofs.Copies.{copy, laid}
 
 -- one edge for each step

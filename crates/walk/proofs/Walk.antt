@@ -9,11 +9,13 @@ use Rattle.limits.specs.Limits.{mostNodes, lineRoom}
 use Rattle.drawing_spec.specs.Drawing.{Point, Settings}
 use Rattle.drawing_spec.proofs.Members.{in-all}
 use Rattle.graph_spec.specs.Graph.{Edge, pointAt}
-use Rattle.graph_spec.specs.Degree.{oddNodes}
+use Rattle.graph_spec.specs.Odd.{oddNodes}
 use Rattle.graph_spec.specs.Ways.{Inside}
 use Rattle.graph_spec.proofs.Odd.{oddNodes-member}
 use Rattle.graph_spec.proofs.Handshake.{handshake}
-use Rattle.walk_spec.specs.Line.{best, withEdges, euler, hierholzer, orient, lineOf}
+use Rattle.walk_spec.specs.Start.{best, withEdges}
+use Rattle.walk_spec.specs.Line.{euler, hierholzer, lineOf}
+use Rattle.walk_spec.specs.Orient.{orient}
 use Rattle.walk_spec.proofs.Start.{withEdges-within}
 use Rattle.graph_arrays.specs.Arrays.{Front, nodesIn}
 use Rattle.graph_arrays.specs.NodeList.{NodeList, pointsAlong}

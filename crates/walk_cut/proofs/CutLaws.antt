@@ -11,7 +11,7 @@ use lib.ListN.{getD, take, drop}
 use borrow.Author.Tests.{eq-eqb, ne-eqb}
 use Rattle.limits.specs.Limits.{lineRoom}
 use Rattle.walk_spec.specs.Walk.{Entry}
-use Rattle.walk_spec.specs.Line.{isBy, cutAt}
+use Rattle.walk_spec.specs.VirtualStep.{isBy, cutAt}
 use Rattle.graph_arrays.specs.NodeList.{NodeList}
 use Rattle.walk_circuit.specs.Entries.{EntriesIn, byOf, entryOf, entriesOf, entriesFrom}
 use Rattle.walk_cut.specs.Copy.{placesOf, Copy}

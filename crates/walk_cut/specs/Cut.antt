@@ -5,7 +5,7 @@ use Prim.Native.Nat.{ℕ, _-_, _≤_, _<_}
 use lib.ListN.{getD}
 use Rattle.limits.specs.Limits.{lineRoom}
 use Rattle.walk_spec.specs.Walk.{Entry}
-use Rattle.walk_spec.specs.Line.{cutAt}
+use Rattle.walk_spec.specs.VirtualStep.{cutAt}
 use Rattle.walk_circuit.specs.Entries.{entriesFrom}
 
 -- r is the first place from `first` on that was entered by b, or the end

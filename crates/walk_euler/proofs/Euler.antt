@@ -7,10 +7,12 @@ use lib.ListN.{length, getD}
 use Rattle.limits.specs.Limits.{edgeRoom, lineRoom}
 use Rattle.drawing_spec.specs.Drawing.{Point, Settings}
 use Rattle.graph_spec.specs.Graph.{Edge, edge}
-use Rattle.graph_spec.specs.Degree.{oddNodes}
+use Rattle.graph_spec.specs.Odd.{oddNodes}
 use Rattle.repair_spec.specs.Distance.{zeroLength}
 use Rattle.walk_spec.specs.Walk.{Entry, circuit}
-use Rattle.walk_spec.specs.Line.{cutAt, best, withEdges, euler}
+use Rattle.walk_spec.specs.VirtualStep.{cutAt}
+use Rattle.walk_spec.specs.Start.{best, withEdges}
+use Rattle.walk_spec.specs.Line.{euler}
 use Rattle.graph_adjacency.specs.Lists.{Adjacency, push}
 use Rattle.graph_arrays.specs.Arrays.{EdgesLinked, edgesIn}
 use Rattle.graph_arrays.proofs.Arrays.{edges-count, pushed-edges, pushed-linked}

@@ -5,7 +5,7 @@ use lib.ListN.{length}
 use Rattle.graph_spec.specs.Graph.{Edge, edge}
 use Rattle.repair_spec.specs.Distance.{zeroLength}
 use Rattle.walk_spec.specs.Walk.{circuit}
-use Rattle.walk_spec.specs.Line.{cutAt}
+use Rattle.walk_spec.specs.VirtualStep.{cutAt}
 use Rattle.walk_cut.specs.Cut.{nodesOf}
 
 -- no node is odd

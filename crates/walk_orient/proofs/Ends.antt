@@ -9,7 +9,7 @@ use Rattle.drawing_spec.specs.Drawing as drawn
 use Rattle.drawing_spec.specs.Members.{All}
 use Rattle.graph_spec.specs.Graph.{pointAt}
 use Rattle.graph_spec.specs.Count.{lastFrom}
-use Rattle.walk_spec.specs.Line as line
+use Rattle.walk_spec.specs.Orient as line
 use Rattle.graph_arrays.specs.Arrays.{pointIn, nodesIn}
 use Rattle.graph_arrays.specs.NodeList.{NodeList, pointsAlong}
 use Rattle.graph_arrays.proofs.NodeList.{point-at}

@@ -13,7 +13,8 @@ use Rattle.center.proofs.Exact.{same-turn}
 use Rattle.drawing_spec.specs.Drawing.{Point, Settings, inside}
 use Rattle.drawing_spec.specs.Members.{All}
 use Rattle.drawing_spec.specs.OnGrid.{OnGrid}
-use Rattle.walk_spec.specs.Line as line
+use Rattle.walk_spec.specs.Orient as line
+use Rattle.walk_spec.specs.Start as line-start
 use Rattle.walk_start.specs.Better.{liesBetter}
 use Rattle.walk_orient.proofs.Ends.{ends-keep}
 
@@ -35,7 +36,7 @@ module _ (s : Settings) (wide : s .width ≤ mostSide) (high : s .height ≤ mos
   within p g = record { wide = wide; high = high; across = g .0; along = g .1 }
 
   same-test : (p q : Point) → OnGrid p → OnGrid q → betterFloat (inside s) (endAt s p) (endAt s q) ≡ liesBetter s p q
-  unfolding line.distance
+  unfolding line-start.distance
   same-test p q gp gq = same-turn gridExponent (omega arith) (inside s) (s .width) (s .height) (p .x) (p .y) (q .x) (q .y) (within p gp) (within q gq)
 
   is-orient : (points : List Point) → turnedBy (liesBetter s) points (line.endPoints points) ≡ line.orient s points

@@ -9,7 +9,7 @@ use Rattle.limits.specs.Limits.{lineRoom}
 use Rattle.drawing_spec.specs.Drawing as drawn
 use Rattle.drawing_spec.specs.OnGrid.{OnGrid}
 use Rattle.graph_spec.specs.Graph.{pointAt}
-use Rattle.walk_spec.specs.Line as line
+use Rattle.walk_spec.specs.Orient as line
 use Rattle.graph_arrays.specs.Arrays.{nodesIn, NodesHeld}
 use Rattle.graph_arrays.specs.NodeList.{NodeList, pointsAlong}
 use Rattle.graph_arrays.proofs.NodeList.{points-on}

@@ -6,7 +6,7 @@ ghost use Rattle.limits.specs.Limits.{lineRoom, mostSide};
 ghost use Rattle.file_records.specs.Meaning.{settingsOf};
 ghost use Rattle.graph_arrays.specs.Arrays.{NodesHeld};
 ghost use Rattle.graph_arrays.specs.NodeList.{NodeList, pointsAlong};
-ghost use Rattle.walk_spec.specs.Line as definition;
+ghost use Rattle.walk_spec.specs.Orient as definition;
 ghost use Rattle.walk_orient.specs.Reverse.{Reversed};
 ghost use Rattle.walk_orient.specs.Ends.{endsFrom};
 use file_records::Settings;

@@ -12,7 +12,7 @@ use Rattle.center.specs.Center.{fromCenter, better}
 use Rattle.drawing_spec.specs.Drawing as drawn
 use Rattle.drawing_spec.specs.OnGrid.{OnGrid}
 use Rattle.graph_spec.specs.Graph.{pointAt}
-use Rattle.walk_spec.specs.Line.{distance, bestOf, best}
+use Rattle.walk_spec.specs.Start.{distance, bestOf, best}
 use Rattle.graph_arrays.specs.Arrays.{pointIn, nodesIn, NodesHeld}
 use Rattle.graph_arrays.specs.NodeList.{NodeList}
 use Rattle.graph_arrays.proofs.NodeList.{point-at}

@@ -11,7 +11,7 @@ use lib.Dec.{eqb, ltb}
 use borrow.Author.Tests.{lt-ltb, le-ltb, eqb-true}
 use Rattle.drawing_spec.specs.Members.{In}
 use Rattle.graph_spec.specs.Graph.{Edge, Arc, edgesAt}
-use Rattle.graph_spec.specs.Degree.{one, hit, degree}
+use Rattle.graph_spec.specs.Odd.{one, hit, degree}
 use Rattle.graph_spec.specs.Ways.{Joins}
 use Rattle.graph_spec.proofs.Sums.{hit-same}
 use Rattle.graph_spec.proofs.EdgesAt.{edgeAt, edgeAt-in, edgesAt-all, edgesAt-arc}
@@ -20,7 +20,7 @@ use Rattle.graph_adjacency.specs.Follow.{Follows}
 use Rattle.graph_adjacency.proofs.Follow.{follows-none, follows-arc}
 use Rattle.graph_arrays.specs.Arrays.{EdgesLinked, edgesIn}
 use Rattle.graph_arrays.proofs.Arrays.{follows-edges}
-use Rattle.walk_spec.specs.Line.{withEdges}
+use Rattle.walk_spec.specs.Start.{withEdges}
 
 -- ---- a node has an edge where its list has a first arc
 

@@ -14,7 +14,7 @@ use Rattle.drawing_spec.specs.Drawing.{Point, Settings, inside}
 use Rattle.drawing_spec.specs.Members.{All}
 use Rattle.drawing_spec.specs.OnGrid.{OnGrid}
 use Rattle.graph_spec.specs.Graph.{pointAt}
-use Rattle.walk_spec.specs.Line.{distance, bestOf, best}
+use Rattle.walk_spec.specs.Start.{distance, bestOf, best}
 use Rattle.walk_start.specs.Better.{liesBetter}
 
 -- the distance that `hierholzer` has of a node

@@ -5,7 +5,7 @@ use Prim.Native.Nat.{ℕ}
 use Rattle.center.specs.Center.{better}
 use Rattle.drawing_spec.specs.Drawing as drawn
 use Rattle.graph_spec.specs.Graph.{pointAt}
-use Rattle.walk_spec.specs.Line.{distance}
+use Rattle.walk_spec.specs.Start.{distance}
 use Rattle.walk_start.specs.declared.Point.{Point}
 
 -- a point of the definitions, as the code holds it, and back

@@ -8,7 +8,7 @@ ghost use Rattle.file_records.specs.Meaning.{settingsOf};
 ghost use Rattle.graph_adjacency.specs.Lists.{adjacency};
 ghost use Rattle.graph_arrays.specs.Arrays.{pointIn, nodesIn, edgesIn, NodesHeld, EdgesLinked, Front};
 ghost use Rattle.graph_arrays.specs.NodeList.{NodeList};
-ghost use Rattle.walk_spec.specs.Line as definition;
+ghost use Rattle.walk_spec.specs.Start as definition;
 ghost use Rattle.walk_start.specs.Better.{pointFrom, pointOf, liesBetter, betterOf};
 use file_records::Settings;
 use limits::ARC_ROOM;

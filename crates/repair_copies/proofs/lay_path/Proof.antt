@@ -9,7 +9,7 @@ use borrow.Author.Needs.{needs}
 use Rattle.limits.specs.Limits.{mostNodes}
 use Rattle.graph_spec.specs.Graph.{Arc, edgesAt}
 use Rattle.graph_adjacency.specs.Lists.{Adjacency, adjacency, push}
-use Rattle.repair_spec.specs.Retrace.{Laid, layPath, weightTo}
+use Rattle.repair_spec.specs.Copies.{Laid, layPath, weightTo}
 use Rattle.graph_arrays.specs.Arrays.{edgesIn}
 use Rattle.repair_search.proofs.Along.{From, Known, from-first, from-known}
 use Rattle.repair_copies.specs.Laying.{laidOf}

@@ -3,7 +3,7 @@ use mathlib.Core.Path.{sym, _∙_}
 use native.Mathlib.Omega.{arith}
 use borrow.Author.Needs.{needs}
 use Rattle.file_records.specs.Meaning.{settingsOf}
-use Rattle.graph_spec.specs.Degree.{oddNodes}
+use Rattle.graph_spec.specs.Odd.{oddNodes}
 use Rattle.graph_adjacency.specs.Lists.{Adjacency, adjacency}
 use Rattle.graph_arrays.specs.Arrays.{edgesIn, graphIn}
 use Rattle.repair_pairs.proofs.Joined.{odd-nodes, odd-four, greedy-is}

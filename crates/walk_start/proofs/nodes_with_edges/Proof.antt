@@ -7,7 +7,7 @@ use Rattle.limits.specs.Limits.{mostNodes}
 use Rattle.graph_adjacency.specs.Lists.{Adjacency, adjacency}
 use Rattle.graph_arrays.specs.Arrays.{edgesIn}
 use Rattle.graph_arrays.proofs.Listing.{Listing, listing-start, listing-one, listing-none, listing-end}
-use Rattle.walk_spec.specs.Line.{withEdges}
+use Rattle.walk_spec.specs.Start.{withEdges}
 use Rattle.walk_start.proofs.Listed.{arc-some, arc-none, with-nil, with-few, left-some, left-none}
 use borrow.Author.Needs.{needs}
 use Rattle.walk_start.proofs.nodes_with_edges.Statement.{statement}
