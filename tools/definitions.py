@@ -44,10 +44,10 @@ def numbers(values, rest="[]"):
 
 
 def expected(case):
-    """The answer as a term."""
+    """The answer and the output after the call, as a term."""
     head = case.answer[0].split()
     if head[0] == "refused":
-        return f"(refusal {head[1]})"
+        return f"record {{ answer = refusal {head[1]}; output = replicate {case.lent[2]} {BEFORE} }}"
     retrace, before, after, points = int(head[1], 16), int(head[2]), int(head[3]), int(head[4])
     record = struct.pack("<IH", 16 * points, 4)
     for line in case.answer[1:]:
@@ -57,8 +57,8 @@ def expected(case):
     if later < 0:
         sys.exit(f"{case.name}: accepted with too short an output")
     return (
-        f"(planned (record {{ retrace = {retrace}; before = {before}; after = {after}; points = {points};"
-        f" output = {numbers(record, f'replicate {later} {BEFORE}')} }}))"
+        f"record {{ answer = planned (record {{ retrace = {retrace}; before = {before}; after = {after}; points = {points} }});"
+        f" output = {numbers(record, f'replicate {later} {BEFORE}')} }}"
     )
 
 
@@ -130,7 +130,7 @@ HEAD = f"""use Prim.Native.Nat.{{ℕ}}
 use mathlib.Core.Path.{{_≡_, refl}}
 use mathlib.Core.List.{{List, [], _∷_}}
 use lib.ListN.{{replicate}}
-use Rattle.{DEFINITIONS}.specs.Plan.{{Lent, Planned, Answer, refusal, planned, plan}}
+use Rattle.{DEFINITIONS}.specs.Plan.{{Lent, Planned, Answer, refusal, planned, Outcome, plan}}
 
 """
 

@@ -15,4 +15,3 @@ placeBytes x y = bytes 8 (writePlace x) ++ bytes 8 (writePlace y)
 -- the points of the first `count` nodes of a line
 abbrev pub pointsIn : List ℕ → List ℕ → List ℕ → ℕ → List Point
 pointsIn xs ys line count = map (pointIn xs ys) (take count line)
-

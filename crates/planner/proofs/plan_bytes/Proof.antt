@@ -43,10 +43,9 @@ returns-2 : tie.Need-returns-2
 returns-2 c =
     let p = c .before .before .before .before .before .before in
     let r = p .before .before .before .before .before .before .before in
-    let b = r .before .before .before .before .before in
-    (
+    let b = r .before .before .before .before .before in (
       accepted-plan (b .args .file .now) (r .read .result) (r .read .ensures) (p .before .before .before .before .before .enum-told .given .1) (lent (b .args .floats .now) (b .args .bytes .now) (b .args .output .now)) _
-      (p .plan-drawing .ensures .0),
+          (p .plan-drawing .ensures .0),
       p .plan-drawing .ensures .1,
     )
 

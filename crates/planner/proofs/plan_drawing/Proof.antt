@@ -40,10 +40,9 @@ returns : tie.Need-returns
 returns c =
     let p = c .before .before .before .before .before .before in
     let g = p .before .before .before .before .before .before .before .before .before .before in
-    let b = start g in
-    (
+    let b = start g in (
       drawing-planned (b .args .drawing) (b .pre) (g .build-graph .result .nodes) (g .build-graph .result .edges) (g .build-graph .last .0) (g .build-graph .last .1 .0) (edges g)
-      (g .build-graph .ensures) _ _ (p .plan-graph .ensures .0),
+          (g .build-graph .ensures) _ _ (p .plan-graph .ensures .0),
       p .plan-graph .ensures .1,
     )
 

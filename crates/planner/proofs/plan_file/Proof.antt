@@ -39,8 +39,8 @@ returns c =
     let lb : length (p .plan-bytes .last .1 .1 .0) ≡ length (b .args .bytes .now) = search needs in
     let is = p .plan-bytes .ensures .0 in (
       after-call (b .args .file .now) (b .args .floats .now) (b .args .bytes .now) (b .args .output .now) (p .plan-bytes .result) _ is _ _
-      (c .before .before .before .before .before .before .clear-floats .ensures ∙ ap (λ (k : ℕ). replicate k zeroLength) lf)
-      (c .before .before .clear-bytes .ensures ∙ ap (λ (k : ℕ). replicate {A = ℕ} k 0) lb),
+          (c .before .before .before .before .before .before .clear-floats .ensures ∙ ap (λ (k : ℕ). replicate k zeroLength) lf)
+          (c .before .before .clear-bytes .ensures ∙ ap (λ (k : ℕ). replicate {A = ℕ} k 0) lb),
       (
         demand-met (b .args .file .now) (b .args .floats .now) (b .args .bytes .now) (b .args .output .now) (p .plan-bytes .result) _ is,
         p .plan-bytes .ensures .1,

@@ -48,9 +48,14 @@ emit-line-requires : tie.Need-emit-line-requires
 emit-line-requires c κs =
     let f = c .before .before .before .before .before .before .before .before .before .before .before .before in
     let a = reached f in
-    let b = start a in
-    ((b .pre .wide, b .pre .high), (b .pre .nodes, held (b .args .settings) (b .args .n) (b .args .m) (b .args .xs .now) (b .args .ys .now) (entry b) (b .pre) (b .args .floats .now) (b .args .bytes .now) (b .args .output .now) _ (a .all-reached .ensures)
-    (not-false _ (f .before .before .before .before .before .before .before .if1 .left)) (after f) (f .fix-parity .result) (f .fix-parity .ensures .0) (f .fix-parity .ensures .1) _ _ _ (c .before .before .before .before .before .before .parity2 .given .1)))
+    let b = start a in (
+      (b .pre .wide, b .pre .high),
+      (
+        b .pre .nodes,
+        held (b .args .settings) (b .args .n) (b .args .m) (b .args .xs .now) (b .args .ys .now) (entry b) (b .pre) (b .args .floats .now) (b .args .bytes .now) (b .args .output .now) _ (a .all-reached .ensures)
+            (not-false _ (f .before .before .before .before .before .before .before .if1 .left)) (after f) (f .fix-parity .result) (f .fix-parity .ensures .0) (f .fix-parity .ensures .1) _ _ _ (c .before .before .before .before .before .before .parity2 .given .1),
+      ),
+    )
 
 enum-told : tie.Need-enum-told
 enum-told c = search needs
@@ -68,9 +73,11 @@ returns-2 : tie.Need-returns-2
 returns-2 c =
     let f = c .before .before .before .before .before .before .before in
     let a = reached f in
-    let b = start a in
-    (repair-refused (b .args .settings) (b .args .n) (b .args .m) (b .args .xs .now) (b .args .ys .now) (entry b) (b .pre) (b .args .floats .now) (b .args .bytes .now) (b .args .output .now) _ (a .all-reached .ensures)
-    (not-false _ (f .before .before .before .before .before .before .before .if1 .left)) (after f) (f .fix-parity .result) (f .fix-parity .ensures .0) (f .fix-parity .ensures .1) _ (c .before .parity .given .1), tt)
+    let b = start a in (
+      repair-refused (b .args .settings) (b .args .n) (b .args .m) (b .args .xs .now) (b .args .ys .now) (entry b) (b .pre) (b .args .floats .now) (b .args .bytes .now) (b .args .output .now) _ (a .all-reached .ensures)
+          (not-false _ (f .before .before .before .before .before .before .before .if1 .left)) (after f) (f .fix-parity .result) (f .fix-parity .ensures .0) (f .fix-parity .ensures .1) _ (c .before .parity .given .1),
+      tt,
+    )
 
 same-length-3 : tie.Need-same-length-3
 same-length-3 c = search needs
@@ -86,9 +93,11 @@ returns-3 c =
     let e = c .before .before .before .before in
     let f = e .before .before .before .before .before .before .before .before .before .before .before .before .before in
     let a = reached f in
-    let b = start a in
-    (line-short (b .args .settings) (b .args .n) (b .args .m) (b .args .xs .now) (b .args .ys .now) (entry b) (b .pre) (b .args .floats .now) (b .args .bytes .now) (b .args .output .now) _ (a .all-reached .ensures)
-    (not-false _ (f .before .before .before .before .before .before .before .if1 .left)) (after f) (f .fix-parity .result) (f .fix-parity .ensures .0) (f .fix-parity .ensures .1) _ _ _ (e .before .before .before .before .before .before .before .parity2 .given .1) _ _ (e .emit-line .ensures .0) (e .emit-line .ensures .1) (c .enum-told .given .1), tt)
+    let b = start a in (
+      line-short (b .args .settings) (b .args .n) (b .args .m) (b .args .xs .now) (b .args .ys .now) (entry b) (b .pre) (b .args .floats .now) (b .args .bytes .now) (b .args .output .now) _ (a .all-reached .ensures)
+          (not-false _ (f .before .before .before .before .before .before .before .if1 .left)) (after f) (f .fix-parity .result) (f .fix-parity .ensures .0) (f .fix-parity .ensures .1) _ _ _ (e .before .before .before .before .before .before .before .parity2 .given .1) _ _ (e .emit-line .ensures .0) (e .emit-line .ensures .1) (c .enum-told .given .1),
+      tt,
+    )
 
 same-length-6 : tie.Need-same-length-6
 same-length-6 c = search needs
@@ -107,9 +116,9 @@ returns-4 c =
     let b = start a in
     let found = e .before .before .before .before .before .before .before .parity2 .given .1 in (
       line-points (b .args .settings) (b .args .n) (b .args .m) (b .args .xs .now) (b .args .ys .now) (entry b) (b .pre) (b .args .floats .now) (b .args .bytes .now) (b .args .output .now) _ (a .all-reached .ensures)
-    (not-false _ (f .before .before .before .before .before .before .before .if1 .left)) (after f) (f .fix-parity .result) (f .fix-parity .ensures .0) (f .fix-parity .ensures .1) _ _ _ found _ _ (e .emit-line .ensures .0) (e .emit-line .ensures .1) _ (c .before .emitted .given .1),
+          (not-false _ (f .before .before .before .before .before .before .before .if1 .left)) (after f) (f .fix-parity .result) (f .fix-parity .ensures .0) (f .fix-parity .ensures .1) _ _ _ found _ _ (e .emit-line .ensures .0) (e .emit-line .ensures .1) _ (c .before .emitted .given .1),
       number (b .args .settings) (b .args .n) (b .args .m) (b .args .xs .now) (b .args .ys .now) (entry b) (b .pre) (b .args .floats .now) (b .args .bytes .now) (b .args .output .now) _ (a .all-reached .ensures)
-    (not-false _ (f .before .before .before .before .before .before .before .if1 .left)) (after f) (f .fix-parity .result) (f .fix-parity .ensures .0) (f .fix-parity .ensures .1) _ _ _ found,
+          (not-false _ (f .before .before .before .before .before .before .before .if1 .left)) (after f) (f .fix-parity .result) (f .fix-parity .ensures .0) (f .fix-parity .ensures .1) _ _ _ found,
     )
 
 pub plan-graph-spec : {M : Type 1} → statement M
