@@ -5,7 +5,7 @@ usage: oracle/compare.py PLANNER PLANNER SEED COUNT [KIND ...]      (all kinds i
 
 A PLANNER is a command that reads a batch and prints one line for each drawing, such as
 'OUT/oracle --batch --line', or 'each COMMAND' for a program like `plan` that reads one drawing; that
-one is only asked about drawings for which the tables and output that `plan` lends are lent.
+one lends itself what `plan` lends, so the other is lent that too.
 Prints for each kind how many drawings were compared, what became of them and how many differ, and the
 smallest file that differs.
 """
@@ -43,7 +43,7 @@ def main():
             *lent, file = next(d.unbatched(d.batched(file, **lent)))
             drawings.append((tuple(lent), file))
         if "each" in (one.split()[0], two.split()[0]):
-            drawings = [(lent, file) for lent, file in drawings if lent == AS_PLAN]
+            drawings = [(AS_PLAN, file) for _, file in drawings]
         a, b = answers(one, drawings), answers(two, drawings)
         assert len(a) == len(b) == len(drawings), "a planner gave too few or too many answers"
         what = collections.Counter("ok" if line.startswith("ok") else line for line in a)

@@ -1,28 +1,10 @@
-"""Writes drawing files (document 01, "The drawing file") and the batch form that the oracle reads."""
+"""Drawing files as tools/ writes them, and the batch form that the oracle reads."""
+import os
 import struct
+import sys
 
-PLAN_F64, PLAN_BYTES, PLAN_OUTPUT = 2**12 + 12**2, 2**12, 6 + 16 * 4001  # what `plan` lends
-
-
-def record(kind, body):
-    return struct.pack("<IH", len(body), kind) + body
-
-
-def settings(width=10, height=10, pairing=0, flags=0):
-    return record(1, struct.pack("<IIBB", width, height, pairing, flags))
-
-
-def line(points):
-    return record(2, b"".join(struct.pack("<dd", x, y) for x, y in points))
-
-
-def link(line_a, segment_a, a, line_b, segment_b, b):
-    return record(3, struct.pack("<HHHHdddd", line_a, segment_a, line_b, segment_b, *a, *b))
-
-
-def drawing(lines, links=(), **settings_values):
-    """A whole file; points are pairs in pixels, a link is the six values that `link` takes."""
-    return settings(**settings_values) + b"".join(map(line, lines)) + b"".join(link(*l) for l in links)
+sys.path.insert(0, os.path.join(os.path.dirname(os.path.abspath(__file__)), "..", "tools"))
+from cardermoss.drawing_file import PLAN_BYTES, PLAN_F64, PLAN_OUTPUT, drawing, line, link, record, settings  # noqa: F401
 
 
 def batched(file, f64=PLAN_F64, byte=PLAN_BYTES, output=PLAN_OUTPUT):

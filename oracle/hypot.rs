@@ -5,21 +5,40 @@ pub trait NearestHypot {
     fn nearest_hypot(self, other: f64) -> f64;
 }
 
-/// For timing (oracle/build --fast-root): on the grid the squares and their sum are exact, and IEEE 754
-/// asks of the machine's root that it is the nearest. The other way, below, checks that each time.
-#[cfg(fast_root)]
 impl NearestHypot for f64 {
+    #[cfg(not(fast_root))]
+    fn nearest_hypot(self, other: f64) -> f64 {
+        let (a, b) = (grid_steps(self), grid_steps(other));
+        // The root in grid steps, in pixels.
+        nearest_root((a * a + b * b) as u64) / 1024.0
+    }
+
+    #[cfg(fast_root)]
+    fn nearest_hypot(self, other: f64) -> f64 {
+        MachineRoot::nearest_hypot(self, other)
+    }
+}
+
+/// On the grid the squares and their sum are exact, and IEEE 754 asks of the machine's root that it is the nearest.
+/// The other way checks that each time.
+pub trait MachineRoot {
+    fn nearest_hypot(self, other: f64) -> f64;
+}
+
+impl MachineRoot for f64 {
     fn nearest_hypot(self, other: f64) -> f64 {
         (self * self + other * other).sqrt()
     }
 }
 
-#[cfg(not(fast_root))]
-impl NearestHypot for f64 {
+/// The C library's, for timing alone.
+pub trait LibraryHypot {
+    fn nearest_hypot(self, other: f64) -> f64;
+}
+
+impl LibraryHypot for f64 {
     fn nearest_hypot(self, other: f64) -> f64 {
-        let (a, b) = (grid_steps(self), grid_steps(other));
-        // The root in grid steps, in pixels.
-        nearest_root((a * a + b * b) as u64) / 1024.0
+        self.hypot(other)
     }
 }
 

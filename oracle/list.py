@@ -10,6 +10,7 @@ import subprocess
 import sys
 
 import drawing as d
+from answers import Case, written
 from generate import KINDS
 
 
@@ -22,10 +23,7 @@ def main():
         batch = b"".join(d.batched(file, *lent) for *lent, file in drawings)
         printed = subprocess.run([oracle, "--batch"], input=batch, capture_output=True, check=True).stdout.decode()
         for i, ((*lent, file), answer) in enumerate(zip(drawings, printed.split("--\n"))):
-            print(f"case {kind} {seed} {i}")
-            print("lent", *lent)
-            print("file", file.hex())
-            print(answer)
+            print(written(Case(f"{kind} {seed} {i}", lent, file, answer.splitlines())), end="")
 
 
 if __name__ == "__main__":

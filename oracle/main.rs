@@ -1,29 +1,51 @@
 //! The oracle: the published planner, run on drawing files as document 01 says.
 //!
-//! `published.rs` is not ours. oracle/build cuts it out of the published source; it is never committed.
+//! With a planner linked in (oracle/build --planner) it also compares and times the two.
 
 mod departure;
 mod geo;
 mod hypot;
 mod reader;
+#[cfg(planner)]
+mod against;
+#[cfg(planner)]
+mod bench;
+#[cfg(planner)]
+mod port;
 
 #[cfg(not(real_petgraph))]
 mod petgraph;
 #[cfg(real_petgraph)]
 extern crate petgraph;
 
-use hypot::NearestHypot;
 use petgraph::algo::dijkstra;
-use petgraph::graph::{NodeIndex, UnGraph};
+use petgraph::graph::NodeIndex;
 use petgraph::visit::EdgeRef;
 use std::io::{Read, Write};
-use std::time::Instant;
 
-include!("published.rs");
+/// The published planner with document 01's stand-in for `hypot`.
+mod stand_in {
+    use crate::hypot::NearestHypot;
+    include!("rust_plan.rs");
+}
+
+/// For timing: with the machine's root, and with the C library's `hypot`, which the published text calls.
+#[cfg(planner)]
+mod machine_root {
+    use crate::hypot::MachineRoot;
+    include!("rust_plan.rs");
+}
+#[cfg(planner)]
+mod library_hypot {
+    use crate::hypot::LibraryHypot;
+    include!("rust_plan.rs");
+}
+
+use stand_in::plan;
 
 /// What the caller lends: entries of the f64 table, entries of the byte table, bytes of the output.
-#[derive(Clone, Copy)]
-struct Lent {
+#[derive(Clone, Copy, Debug)]
+pub struct Lent {
     f64_entries: usize,
     byte_entries: usize,
     output_bytes: usize,
@@ -33,97 +55,6 @@ struct Lent {
 const LENT_BY_PLAN: Lent =
     Lent { f64_entries: (1 << 12) + 12 * 12, byte_entries: 1 << 12, output_bytes: 6 + 16 * 4001 };
 
-const MOST_EDGES: usize = 4000;
-
-/// The error by which `apply_matching` stops for refusal 13; any other error is refusal 12.
-const TOO_MANY_EDGES: &str = "more than 4,000 edges after a retrace";
-
-/// Called by the published `apply_matching` after each retrace (oracle/build puts the call there), so
-/// that 13 is found before the next search runs on a graph that is too large.
-fn after_retrace(graph: &UnGraph<(), f64>) -> Result<(), String> {
-    if graph.edge_count() > MOST_EDGES { Err(TOO_MANY_EDGES.to_owned()) } else { Ok(()) }
-}
-
-struct Plan {
-    retrace: f64,
-    odd_before: usize,
-    odd_after: usize,
-    points: Vec<Point>,
-    // Not part of the answer: the number of edges before repair, and the repaired graph.
-    edges_drawn: usize,
-    graph: UnGraph<(), f64>,
-}
-
-/// The plan for a file, or the number of its refusal.
-fn plan(file: &[u8], lent: Lent) -> Result<Plan, u32> {
-    let drawing = reader::read(file)?;
-    let dims = Dimensions { width: drawing.width, height: drawing.height };
-    let pairing = if drawing.optimal { ParityStrategy::Optimal } else { ParityStrategy::Greedy };
-    let start = if drawing.inside { StartPointStrategy::Inside } else { StartPointStrategy::Outside };
-    // Empty lines stay in the list, so that the links' line numbers fit; `build_graph` skips them.
-    let lines: Vec<Polyline> = drawing
-        .lines
-        .iter()
-        .map(|line| Polyline::new(line.iter().map(|&(x, y)| Point::new(x, y)).collect()))
-        .collect();
-    let line_refs: Vec<&Polyline> = lines.iter().collect();
-    let links: Vec<MstEdge> = drawing
-        .links
-        .iter()
-        .map(|l| MstEdge {
-            poly_a: l.line_a,
-            poly_b: l.line_b,
-            point_a: geo::Coord { x: l.a.0, y: l.a.1 },
-            point_b: geo::Coord { x: l.b.0, y: l.b.1 },
-            seg_a: l.segment_a,
-            seg_b: l.segment_b,
-        })
-        .collect();
-
-    let (mut graph, node_coords) = build_graph(&line_refs, &links);
-    let edges_drawn = graph.edge_count();
-    if !all_reached_from_first(&graph) {
-        return Err(9);
-    }
-    if drawing.optimal {
-        let n = odd_degree_vertices(&graph).len();
-        if n > DP_THRESHOLD {
-            return Err(10);
-        }
-        if n >= 4 && (lent.f64_entries < (1 << n) + n * n || lent.byte_entries < 1 << n) {
-            return Err(11);
-        }
-    }
-    let (retrace, odd_before, odd_after) = fix_parity(&mut graph, &node_coords, pairing, drawing.close)
-        .map_err(|error| if error == TOO_MANY_EDGES { 13u32 } else { 12 })?;
-    let path = hierholzer(&graph, &node_coords, start, dims);
-    let line = orient_path(emit_polyline(&path, &node_coords), start, dims);
-    let points = line.into_points();
-    if lent.output_bytes < 6 + 16 * points.len() {
-        return Err(14);
-    }
-    Ok(Plan { retrace, odd_before, odd_after, points, edges_drawn, graph })
-}
-
-/// Check 9, which the published code has no part for.
-fn all_reached_from_first(graph: &UnGraph<(), f64>) -> bool {
-    let mut reached = vec![false; graph.node_count()];
-    let mut open: Vec<NodeIndex> = graph.node_indices().take(1).collect();
-    for node in &open {
-        reached[node.index()] = true;
-    }
-    while let Some(node) = open.pop() {
-        for edge in graph.edges(node) {
-            let next = edge.target();
-            if !reached[next.index()] {
-                reached[next.index()] = true;
-                open.push(next);
-            }
-        }
-    }
-    reached.into_iter().all(|r| r)
-}
-
 /// The lines that `plan` prints.
 fn answer(file: &[u8], lent: Lent) -> Vec<String> {
     match plan(file, lent) {
@@ -131,7 +62,7 @@ fn answer(file: &[u8], lent: Lent) -> Vec<String> {
         Ok(p) => {
             let head = format!("ok {:016x} {} {} {}", p.retrace.to_bits(), p.odd_before, p.odd_after, p.points.len());
             let steps = |x: f64| (x * 1024.0) as i64;
-            let points = p.points.iter().map(|q| format!("{} {}", steps(q.x), steps(q.y)));
+            let points = p.points.iter().map(|&(x, y)| format!("{} {}", steps(x), steps(y)));
             std::iter::once(head).chain(points).collect()
         }
     }
@@ -173,25 +104,54 @@ fn inside(file: &[u8], lent: Lent) -> String {
     text
 }
 
-/// The drawings of a batch: three sizes lent and the file's length, each u32 LE, then the file.
-fn batch(mut bytes: &[u8]) -> Vec<(Lent, &[u8])> {
-    let mut drawings = Vec::new();
-    while !bytes.is_empty() {
-        let number = |i: usize| reader::u32_at(bytes, 4 * i) as usize;
-        let lent = Lent { f64_entries: number(0), byte_entries: number(1), output_bytes: number(2) };
-        let (file, rest) = bytes[16..].split_at(number(3));
-        drawings.push((lent, file));
-        bytes = rest;
+/// The next drawing of a batch: three sizes lent and the file's length, each u32 LE, then the file.
+fn next_drawing() -> Option<(Lent, Vec<u8>)> {
+    let mut input = std::io::stdin().lock();
+    let mut head = [0; 16];
+    match input.read(&mut head).expect("standard input") {
+        0 => return None,
+        count => input.read_exact(&mut head[count..]).expect("a whole head"),
     }
-    drawings
+    let number = |i: usize| reader::u32_at(&head, 4 * i) as usize;
+    let mut file = vec![0; number(3)];
+    input.read_exact(&mut file).expect("a whole file");
+    Some((Lent { f64_entries: number(0), byte_entries: number(1), output_bytes: number(2) }, file))
 }
 
-const USAGE: &str = "usage: oracle [--f64 N] [--bytes N] [--output N] [--counts | --inside | --time N]   < one drawing
-       oracle --batch [--line | --counts | --inside | --time N]                      < drawings in batch form";
+const USAGE: &str = "usage: oracle [--f64 N] [--bytes N] [--output N] [--counts | --inside]   < one drawing
+       oracle --batch [--line | --counts | --inside]                      < drawings in batch form
+with a planner linked in, for drawings in batch form:
+       oracle --against | --against-all-settings | --against-sizes
+       oracle --against-damaged N | --against-changed N
+       oracle --bench | --phases | --stack";
+
+/// Runs a mode that needs a planner linked in; gives whether there is one of this name.
+#[cfg(planner)]
+fn with_planner(word: &str, number: &mut dyn FnMut() -> usize) -> bool {
+    use against::Mode;
+    let same = match word {
+        "--against" => against::run(Mode::AsLent { all_settings: false }),
+        "--against-all-settings" => against::run(Mode::AsLent { all_settings: true }),
+        "--against-sizes" => against::run(Mode::Sizes),
+        "--against-damaged" => against::run(Mode::Damaged(number())),
+        "--against-changed" => against::run(Mode::Changed(number())),
+        "--bench" | "--phases" | "--stack" => {
+            bench::run(word);
+            true
+        }
+        _ => return false,
+    };
+    std::process::exit(i32::from(!same))
+}
+
+#[cfg(not(planner))]
+fn with_planner(_: &str, _: &mut dyn FnMut() -> usize) -> bool {
+    false
+}
 
 fn main() {
     let mut lent = LENT_BY_PLAN;
-    let (mut is_batch, mut one_line, mut show_counts, mut show_inside, mut times) = (false, false, false, false, 0);
+    let (mut is_batch, mut one_line, mut show_counts, mut show_inside) = (false, false, false, false);
     let mut words = std::env::args().skip(1);
     while let Some(word) = words.next() {
         let mut number = || words.next().and_then(|w| w.parse::<usize>().ok()).expect(USAGE);
@@ -199,27 +159,16 @@ fn main() {
             "--f64" => lent.f64_entries = number(),
             "--bytes" => lent.byte_entries = number(),
             "--output" => lent.output_bytes = number(),
-            "--time" => times = number(),
             "--batch" => is_batch = true,
             "--line" => one_line = true,
             "--counts" => show_counts = true,
             "--inside" => show_inside = true,
+            other if with_planner(other, &mut number) => return,
             _ => panic!("{USAGE}"),
         }
     }
-    let mut input = Vec::new();
-    std::io::stdin().read_to_end(&mut input).expect("standard input");
-    let drawings = if is_batch { batch(&input) } else { vec![(lent, input.as_slice())] };
-
-    let mut out = std::io::BufWriter::new(std::io::stdout().lock());
-    for (lent, file) in drawings {
-        let text = if times > 0 {
-            let began = Instant::now();
-            for _ in 0..times {
-                std::hint::black_box(plan(std::hint::black_box(file), lent).is_ok());
-            }
-            format!("{} ns a call\n", began.elapsed().as_nanos() / times as u128)
-        } else if show_counts {
+    let shown = |lent: Lent, file: &[u8]| {
+        if show_counts {
             counts(file, lent) + "\n"
         } else if show_inside {
             inside(file, lent) + "\n"
@@ -227,7 +176,17 @@ fn main() {
             answer(file, lent).join(" ") + "\n"
         } else {
             answer(file, lent).join("\n") + if is_batch { "\n--\n" } else { "\n" }
-        };
-        out.write_all(text.as_bytes()).expect("standard output");
+        }
+    };
+    let mut out = std::io::BufWriter::new(std::io::stdout().lock());
+    let mut print = |text: String| out.write_all(text.as_bytes()).expect("standard output");
+    if is_batch {
+        while let Some((lent, file)) = next_drawing() {
+            print(shown(lent, &file));
+        }
+    } else {
+        let mut file = Vec::new();
+        std::io::stdin().read_to_end(&mut file).expect("standard input");
+        print(shown(lent, &file));
     }
 }

@@ -3,8 +3,7 @@
 
 usage: oracle/make_answers.py ORACLE > oracle/answers.txt
 
-Each case is a line `case NAME`, a line `lent F64 BYTES OUTPUT` (entries, entries, bytes), a line `file HEX`
-(only `file` if it is empty), the answer's lines as the oracle prints them, and an empty line.
+oracle/answers.py says what a case looks like; oracle/variants.py what the list tells apart.
 """
 import random
 import re
@@ -13,6 +12,7 @@ import sys
 
 import drawing as d
 import generate as g
+from answers import Case, written
 from samples import CROSS, SAMPLES
 
 
@@ -33,7 +33,7 @@ def from_samples():
 SPARED = [r"65,53\d bytes of nothing", r"(settings and )?[2346] bytes of a head", "body of 2.32-6", r".*kind (5|6|256|257|513)\b",
           "settings of kind (4|65535)", "settings at the end", "settings of (0|16) bytes", "line of (8|31) bytes", "link of (0|80)",
           r"(width|height) (0|2147483648)$", "height 4294967295", "pairing (0|1|255)", "flags [01237]$", "flags 128",
-          "1,02[45] points in two", "settings and 1 bytes", "second body", "settings of kind 0", "line of 1 bytes",
+          "1,024 points in two", "settings and 1 bytes", "second body", "settings of kind 0", "line of 1 bytes",
           r"(y|x of a link's first end|y of a link's second end) number (?!2,|10,)", r"x number (4|5|9|16|12|14|17|18|20|22|23|24|25),",
           "(first|second) end names segment 65535", "second end names (line 65535|an empty line's|segment 2|segment 0)"]
 
@@ -88,7 +88,10 @@ def by_hand():
         yield f"start: a line whose ends tie, flags {flags}", d.drawing([[(1, 5), (5, 6), (9, 5)]], flags=flags)
         yield f"start: a cross, flags {flags}", d.drawing(CROSS, flags=flags)
     yield "start: canvas 0 by 0", d.drawing([square], width=0, height=0)
-    yield "start: an odd width puts the centre on a half", d.drawing([[(3, 5), (4, 5)]], width=7)
+    # Both ends as near to the centre; rounded down or up, it would be nearer to one.
+    for flags in (0, 2):
+        yield f"start: an odd width puts the centre on a half, flags {flags}", d.drawing([[(3, 5), (4, 5)]], width=7, flags=flags)
+        yield f"start: an odd height puts the centre on a half, flags {flags}", d.drawing([[(5, 3), (5, 4)]], height=7, flags=flags)
     yield "start: one step nearer, Inside", d.drawing([[(1, 5), (5, 6), (9 - 1 / 1024, 5)]], flags=2)
     yield "orient: last point strictly better", d.drawing([[(4, 4), (0, 0)]])
     for n in (3, 6, 7, 12):
@@ -115,16 +118,27 @@ def by_hand():
     yield "optimal: cross, 15 bytes", d.drawing(CROSS, pairing=1), dict(f64=32, byte=15)
     yield "order: 22 odd nodes and no tables: 10 before 11", d.drawing(star(22), pairing=1), dict(f64=0, byte=0)
     yield "order: apart and 22 odd nodes: 9 before 10", d.drawing(star(22) + [[(50, 50)]], pairing=1)
+    minus_zero = d.link(0, 0, (-0.0, 0), 0, 0, (1, 0))
+    yield "order: settings twice, the second of 9 bytes: 3 before 4", d.settings() + d.record(1, bytes(9))
+    yield "order: a line of 15 bytes behind a link: 3 before 4", d.settings() + minus_zero + d.record(2, bytes(15))
+    yield "order: settings of 11 bytes, all above what is allowed: 4 before 5", d.record(1, b"\xff" * 11)
+    yield "order: 257 lines and a link at minus zero: 6 before 7", d.settings() + d.line([]) * 257 + minus_zero
     yield "order: no tables and no output: 11 before 14", d.drawing(star(4), pairing=1), dict(f64=0, byte=0, output=0)
     yield "order: apart and no output: 9 before 14", d.drawing([[(0, 0)], [(1, 1)]]), dict(output=0)
     yield "length: the longest segment, closing", d.drawing([[(-4096, -4096), (4096, 4096)]], flags=1)
     yield "length: the shortest segment, closing", d.drawing([[(0, 0), (1 / 1024, 0)]], flags=1)
     yield "length: (27, 17) steps, where the C library's hypot is not the nearest", d.drawing([[(0, 0), (27 / 1024, 17 / 1024)]], flags=1)
     yield "length: (4,096, 4,095 and 1,023 steps), closing", d.drawing([[(-4096, -4096), (4096, 4095 + 1023 / 1024)]], flags=1)
-    # The next three in grid steps; found by the generator, they change with a rule that is nearly right.
+    yield "lines: 257 of one point", d.settings() + d.line([(1, 1)]) * 257
+    # The next five in grid steps; found by the generator, they change with a rule that is nearly right.
     yield "retrace: two ways back within 1e-10, the longer one taken", g.write(
         [[(0, 0), (1502067, 1730103), (3137829, 0)], [(0, 0), (1491291, -1729856), (3137829, 0)],
          [(0, 0), (1057626, -1688848), (3137829, 0)]], flags=1)
+    # Three ways from end to end; the last one is longer than the first by less than 1e-10, and by a little more.
+    span, third = (409600, 0), [(0, 0), (200000, -150000), (409600, 0)]
+    for length, one, last in [("9.9988e-11", (371211, 80393), (405735, 58804)), ("1.0004e-10", (99244, 101905), (125262, 107358))]:
+        yield f"retrace: a way back that is longer by {length}", g.write(
+            [[(0, 0), one, span], third, [(0, 0), last, span]], flags=1)
     yield "retrace: two ways back of one length, whose sums round apart", g.write(
         [[(-1, -6), (405400, 557515), (406451, 555694), (1050, -1827)], [(406452, 555700), (406451, 555694)],
          [(405401, 557521), (406452, 555700), (1051, -1821), (0, 0), (-1, -6)], [(405401, 557521), (0, 0)]], pairing=1, flags=3)
@@ -148,6 +162,8 @@ def by_hand():
     yield "repair: 4,000 edges, a byte of output short", g.hairpin(997, 3, 0, 1), dict(output=d.PLAN_OUTPUT - 1)
     yield "repair: 4,001 edges after the closing retrace", g.hairpin(996, 3, 5, 1)
     yield "repair: 4,001 edges and no output: 13 before 14", g.hairpin(996, 3, 5, 1), dict(output=0)
+    yield "repair: exactly 4,000 edges, not closing", g.hairpin(796, 5, 2, 0)
+    yield "repair: 4,001 edges, not closing", g.hairpin(796, 5, 3, 0)
     yield "repair: past 4,000 edges with retraces to come", g.hairpin(960, 9, 0, 0)
 
 
@@ -174,7 +190,7 @@ def main():
     answers = printed.split("--\n")
     assert answers.pop() == "" and len(answers) == len(cases)
     for (name, file, _), sizes, answer in zip(cases, lent, answers):
-        print(f"case {name}\nlent {sizes['f64']} {sizes['byte']} {sizes['output']}\n{('file ' + file.hex()).strip()}\n{answer}")
+        print(written(Case(name, tuple(sizes.values()), file, answer.splitlines())), end="")
 
 
 main()

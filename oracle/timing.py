@@ -1,48 +1,224 @@
 #!/usr/bin/env python3
-"""Times a few drawings, or writes them to files so that another planner can be timed on them.
+"""Times the planner that is linked into the oracle beside the published one, as tables for docs/PERFORMANCE.md.
 
-usage: oracle/timing.py ORACLE           (the shortest of five rounds, since other work may share the machine)
-       oracle/timing.py --write FOLDER
+usage: oracle/timing.py ORACLE TABLE ...       TABLE is goals, slow, growth, small, phases, walk, found or stack
+       oracle/timing.py --write FOLDER         the drawings of all tables as files, for other planners
+
+ORACLE was built with --planner and --petgraph (and --phases, for the port's columns of phases and walk). Both planners
+run in one process on the same drawings; a time is the least of nine rounds in which they take turns, as processor time
+of a call. The port also writes the record of the line, which the published functions leave to their caller.
 """
 import pathlib
 import random
+import re
 import subprocess
 import sys
 
 import drawing as d
 import generate as g
+import slow
 from samples import CROSS
 
 
-def drawings():
-    """Name, file, how many times it is planned."""
-    yield "cross", d.drawing(CROSS), 50_000
-    yield "line-1000", d.drawing([[(k % 32 * 3, k // 32 * 2) for k in range(1000)]]), 500
+def tables(odd):
+    """Work tables for so many odd nodes."""
+    return dict(f64=2**odd + odd**2, byte=2**odd)
+
+
+def line(count, flags=0):
+    """One line back and forth in rows, as a designer's picture is filled."""
+    return d.drawing([[(k % 32 * 3, k // 32 * 2) for k in range(count)]], flags=flags)
+
+
+def rays(odd):
+    """Optimal: as many rays of different lengths from one point."""
+    return g.write([[(0, 0), (4096 + 90 * k, 9000 - 700 * k)] for k in range(odd)], pairing=1)
+
+
+def lace():
     rng = random.Random("timing")
     steps = lambda n: [2 * g.STEP * k for k in range(n)]
-    lace = g.bricks(14, 29, steps(29), steps(14), lambda: rng.randint(-400, 400))
-    yield "lace", g.write(lace), 10
-    yield "lace-closed", g.write(lace, flags=1), 10
-    yield "odd-1022", with_1022_odd_nodes(rng), 1
+    return g.bricks(14, 29, steps(29), steps(14), lambda: rng.randint(-400, 400))
 
 
-def with_1022_odd_nodes(rng):
-    """Greedy, not closing: 256 teeth with two odd ends each, 255 links with two odd ends each."""
-    file, _ = g.comb(rng, 256, True)
+def teeth(count):
+    """Greedy, not closing: teeth with two odd ends each, linked in a row by links with two odd ends each."""
+    file, _ = g.comb(random.Random("timing teeth"), count, True)
     return d.settings() + file[len(d.settings()):]
+
+
+def largest(flags=1):
+    """1,024 points in rows, and 255 links that each split their own segment twice."""
+    path = [(4 * (k % 32 if k // 32 % 2 == 0 else 31 - k % 32), 4 * (k // 32)) for k in range(1024)]
+    within = lambda k, part: tuple(a + (b - a) * part / 4 for a, b in zip(path[k], path[k + 1]))
+    return d.drawing([path], [(0, k, within(k, 1), 0, k, within(k, 3)) for k in range(2, 1022, 4)], flags=flags)
+
+
+def full():
+    """256 lines, 1,024 points, 255 links: 1,022 odd nodes whose retraces pass 4,000 edges."""
+    rng = random.Random("timing full")
+    corners = lambda: (0, 130 + rng.randrange(9), 260 + rng.randrange(9), 400 - rng.randrange(40))
+    lines = [[(x, 900 * i - g.EDGE) for x in corners()] for i in range(256)]
+    on = lambda i: (rng.randint(1, 129), lines[i][0][1])
+    return g.write(lines, [(j, 0, on(j), i, 0, on(i)) for i in range(1, 256) for j in [max(0, i - rng.choice([1, 7, 20]))]])
+
+
+# The rows of issue 11: name, file, what is lent, the goal as a part of the published planner's time.
+def goals():
+    yield "cross, Greedy", d.drawing(CROSS), {}, 1.0
+    yield "cross, Optimal", d.drawing(CROSS, pairing=1), {}, 1.0
+    yield "a line of 1,000 points, open", line(1000), {}, 0.3
+    yield "a line of 1,000 points, closed", line(1000, flags=1), {}, 0.2
+    yield "Optimal, 12 odd nodes", rays(12), {}, 0.4
+    yield "Optimal, 20 odd nodes", rays(20), tables(20), 0.1
+    yield "lace, closed", g.write(lace(), flags=1), {}, 0.01
+    yield "1,534 nodes, 512 odd, closed", largest(), {}, 0.015
+    yield "1,022 odd nodes, Greedy", teeth(256), {}, 0.005
+    yield "refusal 13, all limits full", full(), {}, 0.007
+
+
+def growth():
+    for count in (125, 250, 500, 1000):
+        yield f"a line of {count:,} points, closed", line(count, flags=1), {}
+    for count in (16, 32, 64, 128, 256):
+        yield f"Greedy, {4 * count - 2:,} odd nodes", teeth(count), {}
+    for odd in range(4, 21, 2):
+        yield f"Optimal, {odd} odd nodes", rays(odd), tables(odd)
+    for odd in (0, 12, 16, 20):
+        yield f"cross, Greedy, tables for {odd} odd nodes lent", d.drawing(CROSS), tables(odd)
+
+
+def small():
+    yield "an empty file", b"", {}
+    yield "settings alone", d.settings(), {}
+    yield "settings alone, no tables lent", d.settings(), dict(f64=0, byte=0)
+    yield "a dot", d.drawing([[(1, 2)]]), {}
+    yield "one segment", d.drawing([[(0, 0), (3, 4)]]), {}
+    yield "cross, no tables lent", d.drawing(CROSS), dict(f64=0, byte=0)
+    yield "65,537 bytes", d.settings() + bytes(65521), {}
+    yield "10,920 empty lines", d.settings() + d.line([]) * 10920, {}
+    yield "a dot without its link", d.drawing([[(0, 0), (8, 0)], [(4, 4)]]), {}
+    yield "the largest drawing, its last coordinate off the grid", largest()[:-8] + b"\xff" * 8, {}
+    yield "the largest drawing, the last output byte missing", largest(0), dict(output=6 + 16 * 1788)
+
+
+def slow_ones():
+    for name, file, odd in slow.cases():
+        yield name, file, tables(odd) if odd else {}
+
+
+def found():
+    """Generated drawings of at least 100 points, to look for slow ones among them."""
+    for kind in ("walks", "lattice", "honeycomb", "lace", "comb", "edges", "big"):
+        rng = random.Random(f"timing {kind}")
+        drawings = [g.KINDS[kind](rng)[0] for _ in range(12)]
+        yield from ((f"{kind} {k}", file, {}) for k, file in enumerate(drawings) if len(file) >= 1600)
+
+
+# For issues 8 and 9: what each phase takes.
+def phases():
+    yield "cross", d.drawing(CROSS), {}
+    yield "a line of 1,000 points, closed", line(1000, flags=1), {}
+    wanted = ("510 split points, mixed", "255 split points twice, mixed", "hub, 510 arms", "hub, 1,020 odd nodes",
+              "far pairs, two hubs")
+    yield from (row for row in slow_ones() if row[0] in wanted)
+    yield from (row[:3] for row in list(goals())[4:])
+
+
+# For issue 10: a line that repair lengthens to so many edges.
+def walk():
+    for edges in (500, 1000, 2000, 4000):
+        yield f"{edges:,} edges", g.hairpin((edges - 12) // 4, 3, 0, 1), {}
+
+
+def run(oracle, mode, rows):
+    """The oracle's line for each row: its sizes, then groups of numbers."""
+    batch = b"".join(d.batched(file, **lent) for _, file, lent, *_ in rows)
+    printed = subprocess.run([oracle, mode], input=batch, stdout=subprocess.PIPE, check=True).stdout.decode().splitlines()
+    assert len(printed) == len(rows)
+    return [(sizes, *[[float(n) for n in numbers.split()] for numbers in groups])
+            for sizes, *groups in (row.split("|") for row in printed)]
+
+
+def micro(nanoseconds):
+    value = nanoseconds / 1000
+    return f"{value:.2f}" if value < 10 else f"{value:.1f}" if value < 100 else f"{value:,.0f}"
+
+
+def ratio(one, other):
+    """In two digits."""
+    value = one / other
+    return f"{value:.0f}" if value >= 10 else f"{value:.1f}" if value >= 1 else f"{value:.2f}" if value >= 0.1 else f"{value:.2g}"
+
+
+def sizes(text):
+    return text.strip() if "refused" in text else " / ".join(re.findall(r"\d+", text))
+
+
+def head(*names):
+    print("| " + " | ".join(names) + " |\n|" + "---|" * len(names))
+
+
+def print_whole(oracle, rows, most=None):
+    """The rows with their times; with `most`, those that take longest, or longest by the published planner's time."""
+    has_goals = len(rows[0]) > 3
+    head("drawing (µs)", "nodes / edges / odd / repaired edges / points", "port", "Rust, C library's hypot", "port by it",
+         *(["goal"] if has_goals else []), "Rust, machine's root", "port by it")
+    timed = [(*row, text, *times) for row, (text, times) in zip(rows, run(oracle, "--bench", rows))]
+    orders = [lambda row: row[-3], lambda row: row[-3] / row[-2], lambda row: row[-3] / row[-1]]
+    chosen = timed if most is None else [row for row in timed if any(row in sorted(timed, key=o)[-most:] for o in orders)]
+    for name, _, _, *goal, text, port, library, machine in chosen:
+        print("|", " | ".join([name, sizes(text), micro(port), micro(library), ratio(port, library), *map(str, goal),
+                               micro(machine), ratio(port, machine)]), "|")
+    longest, by_library, by_machine = (max(timed, key=order) for order in orders)
+    print(f"\n{len(timed)} drawings. Longest: {longest[0]}, {micro(longest[-3])} µs. Highest ratio: {by_library[0]},"
+          f" {ratio(by_library[-3], by_library[-2])}; to the machine's root {by_machine[0]}, {ratio(by_machine[-3], by_machine[-1])}.")
+
+
+# The searches are those of a graph without copies, so that the retraces take what the copies add to them too. The
+# port's times are differences of calls that go from the start, and its last phase also writes the record.
+PHASES = ["read", "build_graph", "check 9, odd nodes", "pairs", "searches", "retraces", "walk to line"]
+
+
+def print_phases(oracle, rows):
+    found = run(oracle, "--phases", rows)
+    for at, title in enumerate(("Rust, C library's hypot", "Rust, machine's root", "port"), 1):
+        if not found[0][at]:
+            continue
+        head(f"{title} (µs)", *PHASES)
+        for (name, *_), row in zip(rows, found):
+            # A refused drawing has fewer phases. A difference that is less than what comes before it strays is not shown.
+            cells = [micro(t) if title != "port" or t > sum(row[at][:k]) / 50 else "-" for k, t in enumerate(row[at])]
+            print("|", " | ".join([name, *cells, *[""] * (len(PHASES) - len(cells))]), "|")
+        print()
+
+
+def print_stack(oracle, rows):
+    found = run(oracle, "--stack", rows)
+    deepest = max(zip((row[1][0] for row in found), (name for name, *_ in rows)))
+    print(f"Deepest stack of a call, over {len(rows)} drawings: {deepest[0]:,.0f} bytes ({deepest[1]}).")
+
+
+TABLES = dict(goals=goals, slow=slow_ones, growth=growth, small=small, phases=phases, walk=walk, found=found)
 
 
 def main():
     if sys.argv[1] == "--write":
         folder = pathlib.Path(sys.argv[2])
         folder.mkdir(parents=True, exist_ok=True)
-        for name, file, _ in drawings():
-            (folder / f"{name}.drawing").write_bytes(file)
+        for rows in TABLES.values():
+            for name, file, *_ in rows():
+                (folder / f"{name.replace(' ', '-')}.drawing").write_bytes(file)
         return
-    run = lambda file, *words: subprocess.run([sys.argv[1], *words], input=file, capture_output=True, check=True).stdout.decode()
-    for name, file, times in drawings():
-        best = min(int(run(file, "--time", str(times)).split()[0]) for _ in range(5))
-        print(f"{name}: {best / 1000:,.1f} µs ({run(file, '--counts').strip()})")
+    oracle, *wanted = sys.argv[1:]
+    for name in wanted:
+        if name == "stack":
+            print_stack(oracle, [row for rows in TABLES.values() for row in rows()])
+        elif name in ("phases", "walk"):
+            print_phases(oracle, list(TABLES[name]()))
+        else:
+            print_whole(oracle, list(TABLES[name]()), 4 if name == "found" else None)
+        print()
 
 
 main()

@@ -5,67 +5,61 @@ usage: tools/definitions.py ANSWERS OUT [--each N] [--most BYTES]
 
 ANSWERS is a list of drawings and answers in the format of oracle/answers.txt. OUT is a folder outside the
 repository, for a scratch repository of the definitions and one crate more: `rt check` there proves, a theorem for each
-drawing and N theorems to a file, that the definition `plan` gives its answer, whole, with every byte written. Left out
-are drawings of more than BYTES bytes, and Optimal with 10 odd nodes or more: the definition tries every pairing, and
-that many take more steps than the checker allows.
+drawing and N theorems to a file, that the definition `plan` gives its answer for just what the case says is lent: whole,
+with every byte of the output. Some cases take more steps than the checker allows, or too long; they are counted and
+named, and left to the program that replays the list with the planner's code:
+- files of more than BYTES bytes that pass checks 1 to 8,
+- Optimal with 10 odd nodes or more, since the definition tries every pairing.
 """
 import argparse
+import collections
 import os
+import pathlib
 import shutil
 import struct
 import sys
 
-ORIGIN = 4096 * 1024
+sys.path.insert(0, str(pathlib.Path(__file__).resolve().parent.parent / "oracle"))
+import answers
+
+# The crate that holds the definition `plan`.
+DEFINITIONS = "planner_spec"
+# What every byte of the output is before the call.
+BEFORE = 7
 
 
-def cases(path):
-    """The cases of a list: name, lent sizes, file, answer lines."""
-    case = None
-    for line in open(path, encoding="utf-8"):
-        line = line.rstrip("\n")
-        if line.startswith("case "):
-            case = {"name": line[5:], "answer": []}
-        elif line.startswith("lent "):
-            case["lent"] = [int(n) for n in line.split()[1:]]
-        elif line.startswith("file"):
-            case["file"] = bytes.fromhex(line[4:].strip())
-        elif line:
-            case["answer"].append(line)
-        elif case:
-            yield case
-            case = None
-    if case:
-        yield case
+def too_long(case, most):
+    """Why the checker doesn't compute this case, or nothing."""
+    head = case.answer[0].split()
+    is_read = head[0] == "ok" or int(head[1]) > 8
+    if is_read and len(case.file) > most:
+        return f"files of more than {most:,} bytes that pass checks 1 to 8"
+    if head[0] == "ok" and case.file[14] == 1 and int(head[2]) >= 10:
+        return "Optimal with 10 odd nodes or more"
+    return None
 
 
-def numbers(values):
-    return " ∷ ".join([str(v) for v in values] + ["[]"])
+def numbers(values, rest="[]"):
+    return " ∷ ".join([str(v) for v in values] + [rest])
 
 
 def expected(case):
-    """The answer as a term, and the length of an output just long enough to show where the record ends."""
-    floats, tables, output = case["lent"]
-    head = case["answer"][0].split()
+    """The answer and the output after the call, as a term."""
+    head = case.answer[0].split()
     if head[0] == "refused":
-        n = int(head[1])
-        if n == 14 and output > 4096:
-            return None
-        return f"(refusal {n})", output if n == 14 else 0
+        return f"record {{ answer = refusal {head[1]}; output = replicate {case.lent[2]} {BEFORE} }}"
     retrace, before, after, points = int(head[1], 16), int(head[2]), int(head[3]), int(head[4])
-    if case["file"][14] == 1 and before >= 10:
-        return None
     record = struct.pack("<IH", 16 * points, 4)
-    for line in case["answer"][1:]:
+    for line in case.answer[1:]:
         for steps in line.split():
             record += struct.pack("<d", int(steps) / 1024)
-    lent = len(record) + 3
-    if output < len(record):
-        sys.exit(f"{case['name']}: accepted with too short an output")
-    term = (
-        f"(planned (record {{ retrace = {retrace}; before = {before}; after = {after}; points = {points};"
-        f" output = {numbers(list(record) + [7, 7, 7])} }}))"
+    later = case.lent[2] - len(record)
+    if later < 0:
+        sys.exit(f"{case.name}: accepted with too short an output")
+    return (
+        f"record {{ answer = planned (record {{ retrace = {retrace}; before = {before}; after = {after}; points = {points} }});"
+        f" output = {numbers(record, f'replicate {later} {BEFORE}')} }}"
     )
-    return term, lent
 
 
 def scratch(out):
@@ -75,7 +69,7 @@ def scratch(out):
         name, _, deps = line.split("#")[0].partition(":")
         if name.strip():
             uses[name.strip()] = deps.split()
-    wanted, todo = set(), ["planner"]
+    wanted, todo = set(), [DEFINITIONS]
     while todo:
         name = todo.pop()
         if name in uses and name not in wanted:
@@ -92,7 +86,7 @@ def scratch(out):
     with open(os.path.join(out, "crates.txt"), "w", encoding="utf-8") as f:
         for name in sorted(wanted):
             f.write(f"{name}: {' '.join(uses[name])}\n")
-        f.write("computed: planner\n")
+        f.write(f"computed: {DEFINITIONS}\n")
     return crate
 
 
@@ -101,15 +95,15 @@ def main():
     ap.add_argument("answers")
     ap.add_argument("out")
     ap.add_argument("--each", type=int, default=8)
-    ap.add_argument("--most", type=int, default=1200)
+    ap.add_argument("--most", type=int, default=1700)
     a = ap.parse_args()
-    chosen, left = [], 0
-    for case in cases(a.answers):
-        want = expected(case)
-        if want is None or len(case["file"]) > a.most:
-            left += 1
-        else:
-            chosen.append((case, want))
+    cases = answers.cases(a.answers)
+    left = collections.defaultdict(list)
+    for case in cases:
+        left[too_long(case, a.most)].append(case)
+    chosen = left.pop(None, [])
+    if not chosen:
+        sys.exit("no case is left to compute")
     crate = scratch(a.out)
     mods = []
     for k in range(0, len(chosen), a.each):
@@ -117,23 +111,26 @@ def main():
         mods.append(name)
         with open(os.path.join(crate, "specs", name + ".antt"), "w", encoding="utf-8") as f:
             f.write(HEAD)
-            group = chosen[k : k + a.each]
-            for i, (case, (term, lent)) in enumerate(group):
-                floats, tables, _ = case["lent"]
-                f.write(f"-- {case['name']}\n")
-                f.write(f"agrees{i} : plan ({numbers(case['file'])})")
-                f.write(f" (record {{ floats = {floats}; bytes = {tables}; output = replicate {lent} 7 }}) ≡ {term}\n")
+            for i, case in enumerate(chosen[k : k + a.each]):
+                floats, tables, output = case.lent
+                f.write(f"-- {case.name}\n")
+                f.write(f"agrees{i} : plan ({numbers(case.file)})")
+                f.write(f" (record {{ floats = {floats}; bytes = {tables}; output = replicate {output} {BEFORE} }}) ≡ {expected(case)}\n")
                 f.write(f"unfolding plan\nagrees{i} = refl\n\n")
     with open(os.path.join(crate, "specs", "Lib.antt"), "w", encoding="utf-8") as f:
         f.write("".join(f"pub mod {m}\n" for m in mods))
-    print(f"{len(chosen)} drawings in {len(mods)} files, {left} left out")
+    print(f"{len(cases)} drawings, {len(chosen)} to compute in {len(mods)} files")
+    for why, group in left.items():
+        what = collections.Counter("ok" if len(case.answer[0]) > 10 else case.answer[0] for case in group)
+        print(f"{len(group)} left to the replay, {why} ({', '.join(f'{n} {w}' for w, n in sorted(what.items()))}):")
+        print("".join(f"    {case.name}\n" for case in group), end="")
 
 
-HEAD = """use Prim.Native.Nat.{ℕ}
-use mathlib.Core.Path.{_≡_, refl}
-use mathlib.Core.List.{List, [], _∷_}
-use lib.ListN.{replicate}
-use Rattle.planner.specs.Plan.{Lent, Planned, Answer, refusal, planned, plan}
+HEAD = f"""use Prim.Native.Nat.{{ℕ}}
+use mathlib.Core.Path.{{_≡_, refl}}
+use mathlib.Core.List.{{List, [], _∷_}}
+use lib.ListN.{{replicate}}
+use Rattle.{DEFINITIONS}.specs.Plan.{{Lent, Planned, Answer, refusal, planned, Outcome, plan}}
 
 """
 

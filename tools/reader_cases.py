@@ -1,5 +1,5 @@
 #!/usr/bin/env python3
-"""Writes crates/reader_cases/data/cases: drawing files with what the reader has to answer to each.
+"""Writes crates/file_cases/data/cases: drawing files with what the reader has to answer to each.
 
 Every refusal from 1 to 8 and both sides of every limit. What is expected is worked out here, from document 01,
 with exact fractions. All numbers are little-endian; the file is a u16 count of cases and then, for each case,
@@ -268,7 +268,7 @@ def main():
             out += struct.pack("<4H4I", *names, *ends)
         packed.append(out)
     here = os.path.dirname(os.path.abspath(__file__))
-    path = os.path.join(here, "..", "crates", "reader_cases", "data", "cases")
+    path = os.path.join(here, "..", "crates", "file_cases", "data", "cases")
     os.makedirs(os.path.dirname(path), exist_ok=True)
     with open(path, "wb") as out:
         out.write(struct.pack("<H", len(packed)) + b"".join(packed))

@@ -1,6 +1,5 @@
 -- Distances from the centre of the canvas.
 -- Definitions:
 pub mod Center
+
 -- The source's floats, and that they say the same:
-pub mod Source
-pub mod Exact

@@ -14,8 +14,8 @@ use lib.Ieee.Bits.{cond-no}
 use borrow.Author.Tests.{le-leb, lt-leb, ne-eqb}
 use Rattle.grid.specs.declared.Place.the-variants.{Off}
 use Rattle.grid.specs.Grid.{originOfGrid, placeOfSteps, placeOnGrid, readOnGrid}
-use Rattle.grid.specs.Same.{same-steps, place-of-value}
-use Rattle.grid.specs.Back.{read-is}
+use Rattle.grid.proofs.Same.{same-steps, place-of-value}
+use Rattle.grid.proofs.Back.{read-is}
 
 -- ---- what puts a number of steps off the grid
 

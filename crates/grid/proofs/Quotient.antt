@@ -11,7 +11,7 @@ use lib.Ieee.{Float, nan, inf, fin, Format, binary64, up, down, unlike, round, d
 use lib.Ieee.Fits.{up-pos, down-pos}
 use lib.Ieee.Exact.{HasValue}
 use lib.Ieee.Scale.{round-same}
-use Rattle.grid.specs.Back.{exact-fraction}
+use Rattle.grid.proofs.Back.{exact-fraction}
 
 positive-by : (t : Bool) → unlike false t ≡ t
 positive-by true = refl

@@ -1,7 +1,6 @@
 // Replays tools/grid_vectors.py's patterns against `grid`: each is read, and where it is on the grid
 // its place is written back. It prints how many there were and how many came out otherwise.
 use grid::Place;
-use libc::STDOUT_FILENO;
 ghost use Prim.Native.Nat.{_+_, _≤_, _<_};
 ghost use lib.ListN.{length};
 
@@ -99,18 +98,12 @@ fn count_wrong(s: &[u8]) -> u64 {
 }
 
 fn main() {
-    let path = b"vectors";
-    let fd = os::open_read(path);
-    if fd < 0 {
-        os::fail(path);
-        return;
-    }
     let mut buf = [0u8; 262144];
-    let n = io::read_full(fd, &mut buf);
-    libc::close(fd);
-    io::write_all(STDOUT_FILENO, b"grid: ");
-    io::print_decimal(STDOUT_FILENO, (n / LINE) as u64);
-    io::write_all(STDOUT_FILENO, b" vectors, ");
-    io::print_decimal(STDOUT_FILENO, count_wrong(&buf[..n]));
-    io::write_all(STDOUT_FILENO, b" wrong\n");
+    let n = test_data::load(b"vectors", &mut buf);
+    test_data::report(
+        b"grid",
+        (n / LINE) as u64,
+        b"vectors",
+        count_wrong(&buf[..n]),
+    );
 }

@@ -3,11 +3,4 @@
 pub mod Root
 pub mod Nearest
 -- Laws. Length has what others use.
-pub mod Whole
-pub mod Digits
-pub mod Value
-pub mod Proved
-pub mod Order
-pub mod Length
 pub mod Steps
-pub mod Shift

@@ -1,15 +1,11 @@
 -- What 'the value of the format that is nearest to the exact root' means, with no root in it: all sides are squared whole numbers of the format's smallest units.
 -- The value x is nearest to √n / 2 ^ e where, for every other value y, the middle of x and y lies on y's side of √n / 2 ^ e. With keys for values that is
 -- (X + Y) / 2 units against √n * 2 ^ low / 2 ^ e units; both sides are doubled, multiplied by 2 ^ e and squared. Each order is strict, so no tie occurs.
-use mathlib.Core.Path.{_≡_}
 use mathlib.Core.Bool.{Bool, false}
-use Prim.Native.Nat.{ℕ, _+_, _-_, _*_, _^_, _≤_, _<_}
-use native.Mathlib.Nat.{le-refl, le-antisymm, lt-of-not-le, mul-le-mul-right}
-use native.Mathlib.Decide.{decLe}
-use native.Mathlib.Omega.{arith}
+use Prim.Native.Nat.{ℕ, _+_, _-_, _*_, _^_, _<_}
 use lib.Dec.{T}
 use lib.Ieee.{Float, nan, inf, fin, Format, low, fits}
-use Rattle.sums.specs.Key.{Nonneg, key, key-inj}
+use Rattle.sums.specs.Key.{Nonneg, key}
 use Rattle.length.specs.Root.{square}
 
 -- below zero, or -0
@@ -35,15 +31,3 @@ pub record NearestRoot (f : Format) (e n : ℕ) (x : Float) : Type 0 where
   pub above : (y : Float) → Nonneg f y → key f x < key f y → exactSquared f n < middleSquared e (key f x + key f y)
   pub below : (y : Float) → Nonneg f y → key f y < key f x → middleSquared e (key f x + key f y) < exactSquared f n
   pub negative : (y : Float) → Negative f y → middleSquared e (key f x - key f y) < exactSquared f n
-
-module _ (f : Format) (e : ℕ) where
-  -- the larger of two numbers has no smaller nearest root
-  pub nearest-mono : (n m : ℕ) (x y : Float) → n ≤ m → NearestRoot f e n x → NearestRoot f e m y → key f x ≤ key f y
-  nearest-mono n m x y h p q = elim (decLe (key f x) (key f y)) [ yes l ↦ l | no g ↦ absurd (clash (lt-of-not-le g)) ]
-    where
-      clash : key f y < key f x → ⊥
-      clash l = omega (arith, p .below y (q .nonneg) l, q .above x (p .nonneg) l, mul-le-mul-right (square (2 ^ low f)) h)
-
-  -- there is but one
-  pub nearest-unique : (n : ℕ) (x y : Float) → NearestRoot f e n x → NearestRoot f e n y → x ≡ y
-  nearest-unique n x y p q = key-inj f x y (p .nonneg) (q .nonneg) (le-antisymm (nearest-mono n n x y (le-refl n) p q) (nearest-mono n n y x (le-refl n) q p))

@@ -1,26 +1,6 @@
 // Runs the root vectors of data/vectors, which tools/length_vectors.py writes: 16 bytes each, a number of squared grid steps and the bits of its
 // length, little-endian. Prints how many there are, and how many lengths are other than these bits.
-ghost use Prim.Native.Nat.{_+_, _≤_};
-ghost use lib.ListN.{length};
-
-fn wide(b: u8) -> u64 {
-    b as u64
-}
-
-// The u64 whose bytes start at a place.
-fn word(s: &[u8], at: usize) -> u64
-    requires { ⌜ at + 8 ≤ length (now s) ⌝ }
-{
-    let low = wide(s[at])
-        | (wide(s[at + 1]) << 8)
-        | (wide(s[at + 2]) << 16)
-        | (wide(s[at + 3]) << 24);
-    let high = wide(s[at + 4])
-        | (wide(s[at + 5]) << 8)
-        | (wide(s[at + 6]) << 16)
-        | (wide(s[at + 7]) << 24);
-    low | (high << 32)
-}
+ghost use Prim.Native.Nat.{_≤_};
 
 // The bits of a length, which is no NaN.
 fn bits(n: u64) -> u64 {
@@ -29,10 +9,9 @@ fn bits(n: u64) -> u64 {
 
 // 1 where the vector at a place is wrong.
 fn miss(s: &[u8], at: usize) -> u64
-    requires { ⌜ at + 16 ≤ length (now s) ⌝ }
     ensures { λ r. ⌜ r ≤ 1 ⌝ }
 {
-    if bits(word(s, at)) == word(s, at + 8) {
+    if bits(test_data::number(s, at, 8)) == test_data::number(s, test_data::past(at, 8), 8) {
         0
     } else {
         1
@@ -50,19 +29,7 @@ fn misses(s: &[u8]) -> u64 {
 }
 
 fn main() {
-    let path = b"vectors";
-    let fd = os::open_read(path);
-    if fd < 0 {
-        os::fail(path);
-        return;
-    }
     let mut buf = [0u8; 131072];
-    let n = io::read_full(fd, &mut buf);
-    libc::close(fd);
-    let wrong = misses(&buf[..n]);
-    io::write_all(libc::STDOUT_FILENO, b"length: ");
-    io::print_decimal(libc::STDOUT_FILENO, (n / 16) as u64);
-    io::write_all(libc::STDOUT_FILENO, b" vectors, ");
-    io::print_decimal(libc::STDOUT_FILENO, wrong);
-    io::write_all(libc::STDOUT_FILENO, b" wrong\n");
+    let n = test_data::load(b"vectors", &mut buf);
+    test_data::report(b"length", (n / 16) as u64, b"vectors", misses(&buf[..n]));
 }

@@ -1,2 +1,3 @@
--- The limits that the planner holds a drawing to.
+-- The limits that the planner holds a drawing to, and the numbers of its refusals.
 pub mod Limits
+pub mod Tied

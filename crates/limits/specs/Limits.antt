@@ -1,5 +1,5 @@
--- The limits of document 01, each named once.
-use Prim.Native.Nat.{ℕ}
+-- The limits of document 01, the sizes that follow from them, and the numbers of its refusals, each named once.
+use Prim.Native.Nat.{ℕ, _+_, _*_, _/_}
 
 -- check 1
 abbrev pub mostBytes : ℕ
@@ -32,3 +32,70 @@ mostOdd = 20
 -- checks 12 and 13
 abbrev pub mostEdges : ℕ
 mostEdges = 4000
+
+-- ---- sizes that follow
+
+-- two split points for each link, and a node for each of them and for each point
+abbrev pub mostSplits : ℕ
+mostSplits = 2 * mostLinks
+
+abbrev pub mostNodes : ℕ
+mostNodes = mostPoints + mostSplits
+
+-- each node in one pair at most
+abbrev pub mostPairs : ℕ
+mostPairs = mostNodes / 2
+
+-- the walk adds the virtual edge; an edge is an arc from each of its ends; a walk has a node more than edges
+abbrev pub edgeRoom : ℕ
+edgeRoom = mostEdges + 1
+
+abbrev pub arcRoom : ℕ
+arcRoom = 2 * edgeRoom
+
+abbrev pub lineRoom : ℕ
+lineRoom = edgeRoom + 1
+
+-- ---- the numbers of the refusals
+
+abbrev pub refusedBytes : ℕ
+refusedBytes = 1
+
+abbrev pub refusedCut : ℕ
+refusedCut = 2
+
+abbrev pub refusedKinds : ℕ
+refusedKinds = 3
+
+abbrev pub refusedLengths : ℕ
+refusedLengths = 4
+
+abbrev pub refusedSettings : ℕ
+refusedSettings = 5
+
+abbrev pub refusedCounts : ℕ
+refusedCounts = 6
+
+abbrev pub refusedCoordinates : ℕ
+refusedCoordinates = 7
+
+abbrev pub refusedLinks : ℕ
+refusedLinks = 8
+
+abbrev pub refusedApart : ℕ
+refusedApart = 9
+
+abbrev pub refusedOdd : ℕ
+refusedOdd = 10
+
+abbrev pub refusedTables : ℕ
+refusedTables = 11
+
+abbrev pub refusedPath : ℕ
+refusedPath = 12
+
+abbrev pub refusedEdges : ℕ
+refusedEdges = 13
+
+abbrev pub refusedOutput : ℕ
+refusedOutput = 14

@@ -1,4 +1,7 @@
-// The limits and the refusals of document 01, for the code: specs/Limits.antt has them for the definitions.
+// The limits and the refusals of document 01, for the code. specs/Limits.antt has them for the definitions;
+// `limits_tied` and `refusals_tied` tie the two together.
+ghost use mathlib.Core.Path.{_≡_};
+ghost use Rattle.limits.specs.Tied.{limitsAre, refusalsAre};
 
 // Check 1: the bytes of a file.
 pub const MOST_BYTES: usize = 65_536;
@@ -17,18 +20,29 @@ pub const MOST_POINTS: usize = 1024;
 
 pub const MOST_LINKS: usize = 255;
 
+// Checks 10 and 11: the odd nodes that Optimal pairs.
+pub const MOST_ODD: usize = 20;
+
 // Checks 12 and 13: the edges of a repaired graph.
 pub const MOST_EDGES: usize = 4000;
-
-// The walk adds the virtual edge to them.
-pub const EDGE_ROOM: usize = MOST_EDGES + 1;
 
 // Two split points for each link, and a node for each of them and for each point.
 pub const MOST_SPLITS: usize = 2 * MOST_LINKS;
 
 pub const MOST_NODES: usize = MOST_POINTS + MOST_SPLITS;
 
-// The numbers of refusals 1 to 8.
+// Each node is in one pair at most.
+pub const MOST_PAIRS: usize = MOST_NODES / 2;
+
+// The walk adds the virtual edge to the edges; an edge is an arc from each of its ends; a walk has one
+// node more than edges.
+pub const EDGE_ROOM: usize = MOST_EDGES + 1;
+
+pub const ARC_ROOM: usize = 2 * EDGE_ROOM;
+
+pub const LINE_ROOM: usize = EDGE_ROOM + 1;
+
+// The numbers of the refusals.
 pub const REFUSED_BYTES: u8 = 1;
 
 pub const REFUSED_CUT: u8 = 2;
@@ -44,3 +58,95 @@ pub const REFUSED_COUNTS: u8 = 6;
 pub const REFUSED_COORDINATES: u8 = 7;
 
 pub const REFUSED_LINKS: u8 = 8;
+
+pub const REFUSED_APART: u8 = 9;
+
+pub const REFUSED_ODD: u8 = 10;
+
+pub const REFUSED_TABLES: u8 = 11;
+
+pub const REFUSED_PATH: u8 = 12;
+
+pub const REFUSED_EDGES: u8 = 13;
+
+pub const REFUSED_OUTPUT: u8 = 14;
+
+pub struct Limits {
+    pub bytes: usize,
+    pub side: u32,
+    pub pairing: u8,
+    pub flags: u8,
+    pub lines: usize,
+    pub points: usize,
+    pub links: usize,
+    pub odd: usize,
+    pub edges: usize,
+    pub splits: usize,
+    pub nodes: usize,
+    pub pairs: usize,
+    pub edge_room: usize,
+    pub arc_room: usize,
+    pub line_room: usize,
+}
+
+// The code's limits and sizes are those of the definitions.
+pub fn limits_tied() -> Limits
+    ensures { λ r. ⌜ r ≡ limitsAre ⌝ }
+{
+    Limits {
+        bytes: MOST_BYTES,
+        side: MOST_SIDE,
+        pairing: MOST_PAIRING,
+        flags: MOST_FLAGS,
+        lines: MOST_LINES,
+        points: MOST_POINTS,
+        links: MOST_LINKS,
+        odd: MOST_ODD,
+        edges: MOST_EDGES,
+        splits: MOST_SPLITS,
+        nodes: MOST_NODES,
+        pairs: MOST_PAIRS,
+        edge_room: EDGE_ROOM,
+        arc_room: ARC_ROOM,
+        line_room: LINE_ROOM,
+    }
+}
+
+pub struct Refusals {
+    pub bytes: u8,
+    pub cut: u8,
+    pub kinds: u8,
+    pub lengths: u8,
+    pub settings: u8,
+    pub counts: u8,
+    pub coordinates: u8,
+    pub links: u8,
+    pub apart: u8,
+    pub odd: u8,
+    pub tables: u8,
+    pub path: u8,
+    pub edges: u8,
+    pub output: u8,
+}
+
+// And so are its numbers of refusals.
+pub fn refusals_tied() -> Refusals
+    ensures { λ r. ⌜ r ≡ refusalsAre ⌝ }
+{
+    Refusals {
+        bytes: REFUSED_BYTES,
+        cut: REFUSED_CUT,
+        kinds: REFUSED_KINDS,
+        lengths: REFUSED_LENGTHS,
+        settings: REFUSED_SETTINGS,
+        counts: REFUSED_COUNTS,
+        coordinates: REFUSED_COORDINATES,
+        links: REFUSED_LINKS,
+        apart: REFUSED_APART,
+        odd: REFUSED_ODD,
+        tables: REFUSED_TABLES,
+        path: REFUSED_PATH,
+        edges: REFUSED_EDGES,
+        output: REFUSED_OUTPUT,
+    }
+}

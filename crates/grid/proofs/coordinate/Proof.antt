@@ -9,7 +9,7 @@ use lib.Ieee.{Float, fin, binary64, round, div, neg, ofInt, ofBits}
 use borrow.Author.Needs.{needs}
 use borrow.Author.Tests.{lt-ltb, le-ltb}
 use Rattle.grid.specs.Grid.{gridExponent, origin, gap, coordinate}
-use Rattle.grid.specs.Back.{coordinate-is}
+use Rattle.grid.proofs.Back.{coordinate-is}
 use Rattle.grid.proofs.Quotient.{quotient}
 use Rattle.grid.proofs.coordinate.Statement.{statement}
 use Rattle.grid.proofs.coordinate.Tie as tie

@@ -7,7 +7,7 @@ use borrow.Author.Needs.{needs}
 use borrow.Author.Tests.{le-leb, lt-leb}
 use Rattle.grid.specs.declared.Place.the-variants.{On}
 use Rattle.grid.specs.Grid.{gridExponent, origin, placeOfSteps, readOnGrid, readPlace}
-use Rattle.grid.specs.Same.{not-negative-zero, at-place}
+use Rattle.grid.proofs.Same.{not-negative-zero, at-place}
 use Rattle.grid.proofs.Fields.{negative, exponent, digits, part-of-step, too-far, read-below, read-above, read-between, shifts-back, shifts-off}
 use Rattle.grid.proofs.read_place.Statement.{statement}
 use Rattle.grid.proofs.read_place.Tie as tie

@@ -8,7 +8,7 @@ use lib.Ieee.{Float, nan, inf, fin, binary64, isNan, toBits}
 use lib.Ieee.Exact.{HasValue}
 use borrow.Author.Needs.{needs}
 use Rattle.grid.specs.Grid.{gridExponent, origin, gap, coordinate}
-use Rattle.grid.specs.Back.{coordinate-value, write-is}
+use Rattle.grid.proofs.Back.{coordinate-value, write-is}
 use Rattle.grid.proofs.write_place.Statement.{statement}
 use Rattle.grid.proofs.write_place.Tie as tie
 

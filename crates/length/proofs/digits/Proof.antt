@@ -1,6 +1,6 @@
 -- `length::digits` meets its contract: Zimmermann's step of `specs/Steps.antt`, rounded.
 use native.Mathlib.Omega.{arith}
-use Rattle.length.specs.Steps.{InRange, in-range, rounded-up, rounded-down}
+use Rattle.length.proofs.Steps.{InRange, in-range, rounded-up, rounded-down}
 use borrow.Author.Needs.{needs}
 use Rattle.length.proofs.digits.Statement.{statement}
 use Rattle.length.proofs.digits.Tie as tie

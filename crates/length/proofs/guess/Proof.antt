@@ -2,7 +2,7 @@
 use borrow.Author.Needs.{needs}
 use Prim.Native.Nat.{_+_, _/_, _^_, _<_}
 use native.Mathlib.Omega.{arith}
-use Rattle.length.specs.Steps.{mean, quotient-lt}
+use Rattle.length.proofs.Steps.{mean, quotient-lt}
 use Rattle.length.proofs.guess.Statement.{statement}
 use Rattle.length.proofs.guess.Tie as tie
 

@@ -5,7 +5,7 @@ use native.Mathlib.Omega.{arith}
 use lib.IntN.{pos}
 use lib.Ieee.{binary64, ofBits, ofInt, div}
 use Rattle.length.specs.Root.{root, significand}
-use Rattle.length.specs.Shift.{in-float, power-in-float, half-le, shifted, shifted-ge, significand-is-digits, power-is-places, digits-fit, quotient-is-root}
+use Rattle.length.proofs.Shift.{in-float, power-in-float, half-le, shifted, shifted-ge, significand-is-digits, power-is-places, digits-fit, quotient-is-root}
 use Rattle.length.proofs.root.Statement.{statement}
 use Rattle.length.proofs.root.Tie as tie
 

@@ -4,7 +4,7 @@ use Prim.Native.Nat.{ℕ, _+_, _*_, _^_, _≤_}
 use native.Mathlib.Omega.{arith}
 use borrow.Author.Needs.{needs}
 use Rattle.length.specs.Root.{square}
-use Rattle.length.specs.Length.{square-le}
+use Rattle.length.proofs.LengthLaws.{square-le}
 use Rattle.length.proofs.squared.Statement.{statement}
 use Rattle.length.proofs.squared.Tie as tie
 

@@ -8,8 +8,8 @@ use lib.Dec.{lit<}
 use mir.Syntax.{w64}
 use mir.Val.{Fits}
 use Rattle.length.specs.Root.{square}
-use Rattle.length.specs.Whole.{root-lt}
-use Rattle.length.specs.Steps.{Mean, mean}
+use Rattle.length.proofs.Whole.{root-lt}
+use Rattle.length.proofs.Steps.{Mean, mean}
 use Rattle.length.proofs.whole_root.Statement.{statement}
 use Rattle.length.proofs.whole_root.Tie as tie
 

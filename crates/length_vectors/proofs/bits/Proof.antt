@@ -2,7 +2,7 @@
 use lib.Dec.{lit≤}
 use borrow.Author.Needs.{needs}
 use Rattle.grid.specs.Grid.{gridExponent}
-use Rattle.length.specs.Length.{length-number}
+use Rattle.length.proofs.LengthLaws.{length-number}
 use Rattle.length_vectors.proofs.bits.Statement.{statement}
 use Rattle.length_vectors.proofs.bits.Tie as tie
 

@@ -18,7 +18,7 @@ sub-loop : tie.Need-sub-loop Inv-loop μ-loop
 sub-loop c = omega arith
 
 miss-requires : tie.Need-miss-requires Inv-loop μ-loop
-miss-requires c κs = omega arith
+miss-requires c κs = tt
 
 add-wrong : tie.Need-add-wrong Inv-loop μ-loop
 add-wrong c = omega arith

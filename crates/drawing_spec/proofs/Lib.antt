@@ -1,0 +1,7 @@
+-- Laws of the definitions in specs/.
+pub mod Accepted
+pub mod Back
+pub mod Examples
+pub mod Members
+pub mod OnGrid
+pub mod Same

@@ -1,0 +1,151 @@
+-- From what the passes find to the reader's answer. Assumes nothing.
+use Prim.Native.Nat.{ℕ, _+_, _-_, _≤_}
+use native.Mathlib.Omega.{arith}
+use mathlib.Core.Path.{_≡_, sym, ap, _∙_}
+use mathlib.Core.List.{List, _∷_, map}
+use mathlib.Core.Bool.{Bool, true, false, _&&_}
+use lib.ListN.{length, replicate, length-map}
+use lib.Dec.{leb}
+use lib.Seq.{sets}
+use borrow.Author.Tests.{leb-true}
+use Rattle.limits.specs.Limits.{mostLines, mostPoints, mostLinks}
+use Rattle.drawing_spec.specs.Drawing as drawn
+use Rattle.drawing_spec.specs.Read.{Record, lineOf, linkOf, bodies, total, kindsFit, lengthsFit, settingsFit, countsFit, linksFit, recordsOf, isCut, drawingOf}
+use Rattle.file_records.specs.Body.{settingsFrom, edgeFrom, recordRead}
+use Rattle.file_records.specs.declared.Settings.{Settings}
+use Rattle.file_records.specs.declared.MstEdge.{MstEdge}
+use Rattle.file_checks.specs.declared.Tally.{Tally}
+use Rattle.file_drawing.specs.declared.Drawing.{Drawing}
+use Rattle.file_checks.specs.Settings.{settingsIn, noSettings}
+use Rattle.file_drawing.specs.Held.{noEdge, drawingHeld}
+use Rattle.file_records.specs.Meaning.{settingsOf}
+use Rattle.file_checks.specs.Tally.{tallied, noTally, orderFits}
+use Rattle.file_checks.proofs.TallyLaws.{kinds, lengths}
+use Rattle.file_drawing.specs.Stores.{padded, flat, xsOf, ysOf, endsFrom}
+use Rattle.file_drawing.proofs.Stores.{sets-padded, length-flat, length-ends}
+use Rattle.file.proofs.First.{settings-read, bodies-behind, at-lines, lines-tally, points-tally, links-tally, counts-tally, points-in}
+use Rattle.file_checks.proofs.CoordinatesLaws.{and-first, and-second}
+use Rattle.file_drawing.specs.Lines.{Arrays, arrays, AtLines, LinesRead, linesFrom}
+use Rattle.file_drawing.specs.Links.{AtLinks, edgesFrom}
+use Rattle.file_drawing.specs.Fit.{edgesHeld}
+use Rattle.file_drawing.proofs.Fit.{links-are}
+use Rattle.file.specs.Reading.{Passed, noDrawing}
+
+-- ---- what each test tells
+
+module _ (rs : List Record) (t : Tally) (e : t ≡ tallied rs noTally) where
+  pub order-tells : (b v : Bool) → b ≡ orderFits (t .order) → b ≡ v → kindsFit rs ≡ v
+  order-tells b v h i = sym (h ∙ ap (λ (t : Tally). orderFits (t .order)) e ∙ kinds rs) ∙ i
+
+  pub lengths-tell : (v : Bool) → t .lengths ≡ v → lengthsFit rs ≡ v
+  lengths-tell v i = sym (ap (λ (t : Tally). t .lengths) e ∙ lengths rs noTally) ∙ i
+
+  pub counts-tell : (b v : Bool) → b ≡ (leb (t .lines) mostLines && leb (t .points) mostPoints && leb (t .links) mostLinks) → b ≡ v → countsFit (drawingOf rs) ≡ v
+  counts-tell b v h i = sym (h ∙ counts-tally rs t e) ∙ i
+
+pub settings-tell : (file : List ℕ) → isCut file ≡ false → kindsFit (recordsOf file) ≡ true → lengthsFit (recordsOf file) ≡ true
+    → (s : Settings) (b v : Bool) → s ≡ settingsIn (recordRead file 0 .body) → b ≡ settingsFit (settingsOf s) → b ≡ v → settingsFit (drawingOf (recordsOf file) .settings) ≡ v
+settings-tell file w k l s b v e h i = sym (h ∙ ap (λ (s : Settings). settingsFit (settingsOf s)) (e ∙ settings-read file w k l)) ∙ i
+
+-- ---- the drawing of a file that checks 1 to 7 pass
+
+pub few-of : (d : drawn.Drawing) → countsFit d ≡ true → (length (d .lines) ≤ mostLines) × (total (map (λ (l : List drawn.Point). length l) (d .lines)) ≤ mostPoints) × (length (d .links) ≤ mostLinks)
+unfolding countsFit
+few-of d h =
+    let a = leb (length (d .lines)) mostLines in
+    let b = leb (total (map (λ (l : List drawn.Point). length l) (d .lines))) mostPoints in
+    let c = leb (length (d .links)) mostLinks in
+    let ab = and-first (a && b) c h in
+    (leb-true _ _ (and-first a b ab), leb-true _ _ (and-second a b ab), leb-true _ _ (and-second (a && b) c h))
+
+same-drawing : (s s' : Settings) (n n' q q' m m' : ℕ) (a a' x x' y y' : List ℕ) (k k' : List MstEdge) → s ≡ s' → n ≡ n' → q ≡ q' → m ≡ m' → a ≡ a' → x ≡ x' → y ≡ y' → k ≡ k'
+    → _≡_ {A = Drawing} (record { settings = s; lines = n; starts = a; points = q; xs = x; ys = y; «link_count» = m; links = k }) (record { settings = s'; lines = n'; starts = a'; points = q'; xs = x'; ys = y'; «link_count» = m'; links = k' })
+same-drawing s s' n n' q q' m m' a a' x x' y y' k k' es en eq em ea ex ey ek = cc
+
+-- an array that a loop filled is the list with zeros behind it
+filled-as : {A : Type 0} (n : ℕ) (z : A) (a vs ws : List A) → a ≡ sets (replicate n z) 0 vs → vs ≡ ws → length ws ≤ n → a ≡ padded n z ws
+filled-as n z a vs ws e i h = e ∙ ap (sets (replicate n z) 0) i ∙ sets-padded n z ws h
+
+places-as : (g : drawn.Point → ℕ) (ls ms : List (List drawn.Point)) (a : List ℕ) → a ≡ sets (replicate mostPoints 0) 0 (map g (flat ls)) → ls ≡ ms → total (map (λ (l : List drawn.Point). length l) ms) ≤ mostPoints → a ≡ padded mostPoints 0 (map g (flat ms))
+places-as g ls ms a e i h = filled-as mostPoints 0 a (map g (flat ls)) (map g (flat ms)) e (ap (λ (ls : List (List drawn.Point)). map g (flat ls)) i) (rw (length-map (flat ms) g, length-flat ms) h)
+
+starts-as : (ls ms : List (List drawn.Point)) (a : List ℕ) → a ≡ sets (replicate (mostLines + 1) 0) 1 (endsFrom 0 ls) → ls ≡ ms → length ms ≤ mostLines → a ≡ padded (mostLines + 1) 0 (0 ∷ endsFrom 0 ms)
+starts-as ls ms a e i h = let m = length-ends 0 ms in filled-as (mostLines + 1) 0 a (0 ∷ endsFrom 0 ls) (0 ∷ endsFrom 0 ms) e (ap (λ (ls : List (List drawn.Point)). 0 ∷ endsFrom 0 ls) i) (omega arith)
+
+-- arrays that hold nothing yet
+abbrev none : Arrays
+none = arrays (replicate (mostLines + 1) 0) (replicate mostPoints 0) (replicate mostPoints 0)
+
+module _ (file : List ℕ) (p : Passed file) (t : Tally) (e : t ≡ tallied (recordsOf file) noTally) where
+  pub lines-ready : AtLines file 16 (t .lines)
+  unfolding drawingOf
+  lines-ready =
+      let f = few-of (drawingOf (recordsOf file)) (p .few) in
+      let n = lines-tally (recordsOf file) t e in
+      at-lines file (p .is-whole) (p .in-order) (p .long) (t .lines) (sym (n ∙ length-map (bodies 2 (recordsOf file)) lineOf)) (rw n (f .0)) (rw (points-in (bodies 2 (recordsOf file))) at (f .1))
+
+  pub links-ready : (a b : Arrays) (end : ℕ) → LinesRead file 16 a b end → AtLinks file end (t .links)
+  unfolding drawingOf
+  links-ready a c end l =
+      let f = few-of (drawingOf (recordsOf file)) (p .few) in
+      let n = links-tally (recordsOf file) t e in
+      let b = bodies-behind file (p .is-whole) (p .in-order) (p .long) 3 (λ q. omega arith) in
+      record {
+        inside = l .end-inside;
+        is-whole = l .end-whole;
+        only-links = l .links-left;
+        lengths-fit = l .end-lengths;
+        counted = ap length (l .same-links ∙ sym b) ∙ sym (n ∙ length-map (bodies 3 (recordsOf file)) linkOf);
+        few-links = rw n (f .2);
+      }
+
+  pub drawing-made : (s : Settings) (r : Arrays) (end : ℕ) (edges : List MstEdge) → s ≡ settingsIn (recordRead file 0 .body) → LinesRead file 16 none r end → edges ≡ sets (replicate mostLinks noEdge) 0 (edgesFrom file end)
+      → _≡_ {A = Drawing} (record { settings = s; lines = t .lines; starts = r .starts; points = t .points; xs = r .xs; ys = r .ys; «link_count» = t .links; links = edges }) (drawingHeld (drawingOf (recordsOf file)))
+  unfolding drawingHeld drawingOf
+  drawing-made s r end edges i l k =
+      let rs = recordsOf file in
+      let d = drawingOf rs in
+      let f = few-of d (p .few) in
+      let w = p .is-whole in
+      let lines-are : linesFrom file 16 ≡ map lineOf (bodies 2 rs) = ap (map lineOf) (sym (bodies-behind file w (p .in-order) (p .long) 2 (λ q. omega arith))) in
+      let links-are : edgesFrom file end ≡ map edgeFrom (map linkOf (bodies 3 rs)) = ap (λ (bs : List (List ℕ)). map edgeFrom (map linkOf bs)) (l .same-links ∙ sym (bodies-behind file w (p .in-order) (p .long) 3 (λ q. omega arith))) in
+      let few-e : length (map edgeFrom (map linkOf (bodies 3 rs))) ≤ mostLinks = rw (length-map (map linkOf (bodies 3 rs)) edgeFrom) (f .2) in
+      same-drawing s (settingsFrom (d .settings)) (t .lines) (length (d .lines)) (t .points) (length (flat (d .lines))) (t .links) (length (d .links)) (r .starts) (padded (mostLines + 1) 0 (0 ∷ endsFrom 0 (d .lines))) (r .xs) (padded mostPoints 0 (xsOf (flat (d .lines)))) (r .ys) (padded mostPoints 0 (ysOf (flat (d .lines)))) edges (padded mostLinks noEdge (map edgeFrom (d .links)))
+      (i ∙ settings-read file w (p .in-order) (p .long)) (lines-tally rs t e) (points-tally rs t e ∙ sym (length-flat (d .lines))) (links-tally rs t e)
+      (starts-as (linesFrom file 16) (d .lines) (r .starts) (l .starts-are) lines-are (f .0))
+      (places-as (λ (p : drawn.Point). p .x) (linesFrom file 16) (d .lines) (r .xs) (l .xs-are) lines-are (f .1))
+      (places-as (λ (p : drawn.Point). p .y) (linesFrom file 16) (d .lines) (r .ys) (l .ys-are) lines-are (f .1))
+      (filled-as mostLinks noEdge edges (edgesFrom file end) (map edgeFrom (d .links)) k links-are few-e)
+
+-- ---- check 8 on it
+
+module _ (file : List ℕ) (p : Passed file) (d : Drawing) (e : d ≡ drawingHeld (drawingOf (recordsOf file))) where
+  pub drawing-few : (d .lines ≤ mostLines) × (d .«link_count» ≤ mostLinks)
+  unfolding drawingHeld
+  drawing-few =
+      let f = few-of (drawingOf (recordsOf file)) (p .few) in
+      (rw (ap (λ (d : Drawing). d .lines) e) (f .0), rw (ap (λ (d : Drawing). d .«link_count») e) (f .2))
+
+  pub links-tell : (b v : Bool) → b ≡ edgesHeld (d .starts) (d .lines) (d .links) (d .«link_count») 0 → b ≡ v → linksFit (drawingOf (recordsOf file)) ≡ v
+  unfolding drawingHeld
+  links-tell b v h i =
+      let a = drawingOf (recordsOf file) in
+      let f = few-of a (p .few) in
+      let m = length-ends 0 (a .lines) in
+      let f0 = f .0 in
+      let few-e : length (map edgeFrom (a .links)) ≤ mostLinks = rw (length-map (a .links) edgeFrom) (f .2) in
+      sym
+      (h
+      ∙ ap (λ (d : Drawing). edgesHeld (d .starts) (d .lines) (d .links) (d .«link_count») 0) e
+      ∙ ap (λ (s : List ℕ). edgesHeld s (length (a .lines)) (padded mostLinks noEdge (map edgeFrom (a .links))) (length (a .links)) 0) (sym (sets-padded (mostLines + 1) 0 (0 ∷ endsFrom 0 (a .lines)) (omega arith)))
+      ∙ ap (λ (l : List MstEdge). edgesHeld (sets (replicate (mostLines + 1) 0) 1 (endsFrom 0 (a .lines))) (length (a .lines)) l (length (a .links)) 0) (sym (sets-padded mostLinks noEdge (map edgeFrom (a .links)) few-e))
+      ∙ links-are a (f .0) (f .2))
+      ∙ i
+
+-- ---- the drawing of a refused file
+
+pub empty-made : (s : Settings) (k : MstEdge) → s ≡ noSettings → k ≡ noEdge
+    → _≡_ {A = Drawing} (record { settings = s; lines = 0; starts = replicate (mostLines + 1) 0; points = 0; xs = replicate mostPoints 0; ys = replicate mostPoints 0; «link_count» = 0; links = replicate mostLinks k }) (drawingHeld noDrawing)
+unfolding drawingHeld flat endsFrom
+empty-made s k es ek = ap (λ (s : Settings). record { settings = s; lines = 0; starts = replicate (mostLines + 1) 0; points = 0; xs = replicate mostPoints 0; ys = replicate mostPoints 0; «link_count» = 0; links = replicate mostLinks k }) es
+    ∙ ap (λ (k : MstEdge). record { settings = noSettings; lines = 0; starts = replicate (mostLines + 1) 0; points = 0; xs = replicate mostPoints 0; ys = replicate mostPoints 0; «link_count» = 0; links = replicate mostLinks k }) ek

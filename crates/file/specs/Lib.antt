@@ -1,0 +1,2 @@
+-- What the reader answers: a file's verdict and the drawing that it holds.
+pub mod Reading

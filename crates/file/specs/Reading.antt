@@ -1,0 +1,57 @@
+-- What the reader answers to a file: document 01's verdict, and the drawing in flat arrays. Assumes nothing.
+use Prim.Native.Nat.{ℕ, _≤_}
+use mathlib.Core.Path.{_≡_}
+use mathlib.Core.List.{List, []}
+use mathlib.Core.Bool.{true, false}
+use lib.ListN.{length, take}
+use Rattle.limits.specs.Limits.{mostBytes}
+use Rattle.drawing_spec.specs.Drawing as drawn
+use Rattle.drawing_spec.specs.Refusal as refusal
+use Rattle.drawing_spec.specs.Read.{kindsFit, lengthsFit, settingsFit, countsFit, coordinatesFit, recordsOf, isCut, drawingOf, readConditions}
+use Rattle.file.specs.declared.Verdict.{Verdict}
+use Rattle.file.specs.declared.Verdict.the-variants.{Refused, Accepted}
+use Rattle.file.specs.declared.Reading.{Reading}
+use Rattle.file_drawing.specs.Held.{drawingHeld}
+
+-- ---- what is answered
+
+-- document 01's number for each case of `Verdict`
+abbrev pub verdictFrom : refusal.Verdict → Verdict
+verdictFrom (refusal.refused n) = Refused n
+verdictFrom refusal.accepted = Accepted
+
+abbrev pub noDrawing : drawn.Drawing
+noDrawing = record { settings = record { width = 0; height = 0; pairing = 0; flags = 0 }; lines = []; links = [] }
+
+-- the drawing of an accepted file, and nothing of a refused one
+abbrev pub drawingIf : refusal.Verdict → List ℕ → drawn.Drawing
+drawingIf (refusal.refused n) file = noDrawing
+drawingIf refusal.accepted file = drawingOf (recordsOf file)
+
+unfoldable pub readingOf : List ℕ → Reading
+readingOf file =
+    let v = refusal.verdict (readConditions file) in
+    record { verdict = verdictFrom v; drawing = drawingHeld (drawingIf v file) }
+
+abbrev pub refusedAs : ℕ → Reading
+refusedAs n = record { verdict = Refused n; drawing = drawingHeld noDrawing }
+
+-- ---- the first of checks 1 to 7
+
+abbrev pub numberOf : refusal.Verdict → ℕ
+numberOf (refusal.refused n) = n
+numberOf refusal.accepted = 0
+
+unfoldable pub firstSeven : List ℕ → ℕ
+firstSeven file = numberOf (refusal.verdict (take 7 (readConditions file)))
+
+-- ---- a file that none of them refuses
+
+pub record Passed (file : List ℕ) : Type 0 where
+  pub small : length file ≤ mostBytes
+  pub is-whole : isCut file ≡ false
+  pub in-order : kindsFit (recordsOf file) ≡ true
+  pub long : lengthsFit (recordsOf file) ≡ true
+  pub settings-fit : settingsFit (drawingOf (recordsOf file) .settings) ≡ true
+  pub few : countsFit (drawingOf (recordsOf file)) ≡ true
+  pub on-grid : coordinatesFit (recordsOf file) ≡ true

@@ -1,0 +1,8 @@
+-- The order of a file's records, one at a time: which bodies are left. Assumes nothing.
+use mathlib.Core.List.{List}
+use mathlib.Core.Bool.{Bool}
+use lib.Dec.{eqb}
+use Rattle.drawing_spec.specs.Read.{Record, every}
+
+abbrev pub allLinks : List Record → Bool
+allLinks rs = every (λ (l : Record). eqb (l .kind) 3) rs

@@ -1,0 +1,59 @@
+-- `file_drawing::arrays::read_links` meets its contract: its loop keeps `Linking`. Assumes nothing.
+use Prim.Native.Nat.{_-_}
+use native.Mathlib.Omega.{arith}
+use Rattle.file_drawing.proofs.LinksLaws.{Linking, link-start, link-on, link-end, link-room}
+use Rattle.file_drawing.proofs.arrays.read_links.Statement.{statement}
+use Rattle.file_drawing.proofs.arrays.read_links.Tie as tie
+
+abbrev Inv-loop : tie.InvT-loop
+Inv-loop file start count edges₀ at₀ link₀ edges at link = Linking file start count at link edges
+
+abbrev μ-loop : tie.MeasureT-loop
+μ-loop file start count edges₀ at₀ link₀ edges at link = count - link
+
+no-edge-requires : tie.Need-no-edge-requires Inv-loop μ-loop
+no-edge-requires c κs = tt
+
+loop-holds : tie.Need-loop-holds Inv-loop μ-loop
+loop-holds c = link-start (c .before .before .args .file .now) (c .before .before .args .start) (c .before .before .args .count) (c .no-edge .result) (c .before .before .pre) (c .no-edge .ensures)
+
+edge-of-requires : tie.Need-edge-of-requires Inv-loop μ-loop
+edge-of-requires c κs = tt
+
+mul-edges : tie.Need-mul-edges Inv-loop μ-loop
+mul-edges c = omega (arith, c .before .before .before .before .before .pre .few-links)
+
+array-set-from-edges : tie.Need-array-set-from-edges Inv-loop μ-loop
+array-set-from-edges c = omega (arith, c .before .before .before .before .before .pre .few-links)
+
+add-at : tie.Need-add-at Inv-loop μ-loop
+add-at c = omega (arith, link-room (c .before .before .before .before .before .args .file .now) (c .before .before .before .before .before .args .start) (c .before .before .before .before .before .args .count) (c .before .before .loop .at) (c .before .before .loop .link) (c .before .before .loop .edges) (c .before .before .loop .inv) (c .before .loop-test .taken))
+
+add-link : tie.Need-add-link Inv-loop μ-loop
+add-link c = omega arith
+
+loop-less : tie.Need-loop-less Inv-loop μ-loop
+loop-less c = omega arith
+
+loop-again : tie.Need-loop-again Inv-loop μ-loop
+loop-again c = link-on (c .before .before .before .before .before .args .file .now) (c .before .before .before .before .before .args .start) (c .before .before .before .before .before .args .count) (c .before .before .loop .at) (c .before .before .loop .link) (c .before .before .loop .edges) (c .before .before .loop .inv) (c .before .loop-test .taken) _ (c .edge-of .ensures)
+
+returns : tie.Need-returns Inv-loop μ-loop
+returns c = link-end (c .before .before .before .before .args .file .now) (c .before .before .before .before .args .start) (c .before .before .before .before .args .count) (c .before .loop .at) (c .before .loop .link) (c .before .loop .edges) (c .before .loop .inv) (c .loop-test .left)
+
+pub read-links-spec : {M : Type 1} → statement M
+read-links-spec =
+    tie.close
+    (tie.spec
+    Inv-loop
+    μ-loop
+    no-edge-requires
+    loop-holds
+    edge-of-requires
+    mul-edges
+    array-set-from-edges
+    add-at
+    add-link
+    loop-less
+    loop-again
+    returns)

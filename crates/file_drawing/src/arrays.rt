@@ -1,0 +1,129 @@
+// The lines and the links of a file, read into flat arrays.
+ghost use mathlib.Core.Path.{_≡_};
+ghost use Prim.Native.Nat.{_+_, _*_, _≤_};
+ghost use lib.ListN.{length, replicate};
+ghost use lib.Seq.{sets};
+ghost use Rattle.limits.specs.Limits.{mostPoints, mostLinks};
+ghost use Rattle.drawing_spec.specs.Read.{points};
+ghost use Rattle.file_records.specs.Body.{recordRead};
+ghost use Rattle.file_drawing.specs.Held.{pointsOf, edgeIn, noEdge};
+ghost use Rattle.file_drawing.specs.Stores.{xsOf, ysOf};
+ghost use Rattle.file_drawing.specs.Lines.{AtLines, arrays, LinesRead};
+ghost use Rattle.file_drawing.specs.Links.{AtLinks, edgesFrom};
+use file_records::Body;
+use file_records::MstEdge;
+use file_records::Point;
+use limits::MOST_LINES;
+use limits::MOST_LINKS;
+use limits::MOST_POINTS;
+
+pub fn no_edge() -> MstEdge
+    ensures { λ r. ⌜ r ≡ noEdge ⌝ }
+{
+    let point = Point { x: 0.0, y: 0.0 };
+    MstEdge {
+        poly_a: 0,
+        seg_a: 0,
+        poly_b: 0,
+        seg_b: 0,
+        point_a: point,
+        point_b: point,
+    }
+}
+
+// The points of a line, and none where the record is another.
+fn points_of(body: Body) -> usize
+    ensures { λ r. ⌜ r ≡ pointsOf body ⌝ }
+{
+    match body {
+        Body::Settings(_) => 0,
+        Body::Line(points) => points,
+        Body::Link(_) => 0,
+        Body::Other => 0,
+    }
+}
+
+// The link of the record at a place, and nothing where it is another.
+fn edge_of(file: &[u8], at: usize) -> MstEdge
+    ensures { λ r. ⌜ r ≡ edgeIn (recordRead (now (file .entry)) at .body) ⌝ }
+{
+    let found = file_records::record_at(file, at);
+    let body = found.body;
+    match body {
+        Body::Settings(_) => no_edge(),
+        Body::Line(_) => no_edge(),
+        Body::Link(edge) => edge,
+        Body::Other => no_edge(),
+    }
+}
+
+// Puts the first `count` points of a line's body into the arrays from an index on.
+fn fill_points(
+    body: &[u8],
+    count: usize,
+    first: usize,
+    xs: &mut [u32; MOST_POINTS],
+    ys: &mut [u32; MOST_POINTS],
+)
+    requires { ⌜ (16 * count ≤ length (now body)) × (first + count ≤ mostPoints) ⌝ }
+    ensures xs_filled { λ _. ⌜ now (xs .exit) ≡ sets (now (xs .entry)) first (xsOf (points count (now (body .entry)))) ⌝ }
+    ensures ys_filled { λ _. ⌜ now (ys .exit) ≡ sets (now (ys .entry)) first (ysOf (points count (now (body .entry)))) ⌝ }
+{
+    let mut place = 0;
+    let mut left = count;
+    let mut i = first;
+    while left > 0 {
+        xs[i] = file_records::place_at(body, place);
+        ys[i] = file_records::place_at(body, place + 8);
+        place += 16;
+        left -= 1;
+        i += 1;
+    }
+}
+
+// Puts the lines of a file, of which there are `count`, from the place of the first on, into the arrays. The answer is
+// the place of the first link.
+pub fn fill_lines(
+    file: &[u8],
+    start: usize,
+    count: usize,
+    starts: &mut [u16; MOST_LINES + 1],
+    xs: &mut [u32; MOST_POINTS],
+    ys: &mut [u32; MOST_POINTS],
+) -> usize
+    requires { ⌜ AtLines (now file) start count ⌝ }
+    ensures { λ r. ⌜ LinesRead (now (file .entry)) start (arrays (now (starts .entry)) (now (xs .entry)) (now (ys .entry))) (arrays (now (starts .exit)) (now (xs .exit)) (now (ys .exit))) r ⌝ }
+{
+    let mut at = start;
+    let mut line = 0;
+    let mut filled = 0;
+    while line < count {
+        let found = file_records::record_at(file, at);
+        let place = found.at;
+        let body = found.body;
+        let points = points_of(body);
+        let part = file_reader::body_of(file, place);
+        fill_points(part, points, filled, xs, ys);
+        filled += points;
+        line += 1;
+        starts[line] = filled as u16;
+        at = place + (6 + 16 * points);
+    }
+    at
+}
+
+// The links of a file, of which there are `count`, from the place of the first on.
+pub fn read_links(file: &[u8], start: usize, count: usize) -> [MstEdge; MOST_LINKS]
+    requires { ⌜ AtLinks (now file) start count ⌝ }
+    ensures { λ r. ⌜ r ≡ sets (replicate mostLinks noEdge) 0 (edgesFrom (now (file .entry)) start) ⌝ }
+{
+    let mut edges = [no_edge(); MOST_LINKS];
+    let mut at = start;
+    let mut link = 0;
+    while link < count {
+        edges[link] = edge_of(file, at);
+        at += 46;
+        link += 1;
+    }
+    edges
+}

@@ -1,0 +1,32 @@
+-- Laws of specs/Part.
+use Prim.Native.Nat.{ℕ, _+_, _-_, _≤_}
+use native.Mathlib.Omega.{arith}
+use mathlib.Core.Path.{_≡_, sym, _∙_}
+use mathlib.Core.List.{List, []}
+use mathlib.Core.Bool.{Bool, true, false}
+use lib.ListN.{length, take, drop}
+use borrow.Author.Tests.{leb-true, le-leb}
+use Rattle.file_records.specs.Walk.{sizeAt, bodyAt, nextAt}
+use Rattle.file_records.specs.Body.{wholeAt}
+use Rattle.file_reader.specs.Part.{bodyPart}
+
+-- ---- what a test for a whole record tells. Assumes nothing.
+
+module _ (file : List ℕ) (at : ℕ) (t : Bool) (w : t ≡ wholeAt file at) where
+  pub within : t ≡ true → nextAt file at ≤ length file
+  within e = leb-true (nextAt file at) (length file) (sym w ∙ e)
+
+  pub part-whole : (n : ℕ) → t ≡ true → n ≡ sizeAt file at → take (at + 6 + n - (at + 6)) (drop (at + 6) file) ≡ bodyPart file at
+  unfolding bodyPart
+  part-whole n e i =
+      let m : at + 6 + n - (at + 6) ≡ sizeAt file at = omega arith in
+      rw (sym w ∙ e, m)
+
+  pub part-none : t ≡ false → [] ≡ bodyPart file at
+  unfolding bodyPart
+  part-none e = rw (sym w ∙ e)
+
+-- of a record that stands whole, the part is its body
+pub part-is : (file : List ℕ) (at : ℕ) → nextAt file at ≤ length file → bodyPart file at ≡ bodyAt file at
+unfolding bodyPart
+part-is file at h = rw (le-leb (nextAt file at) (length file) h)

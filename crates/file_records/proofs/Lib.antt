@@ -1,0 +1,5 @@
+-- Laws of the definitions in specs/.
+pub mod Made
+pub mod Numbers
+pub mod View
+pub mod Walk

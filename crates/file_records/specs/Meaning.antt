@@ -1,0 +1,6 @@
+-- The settings of the definitions, as the code's struct has them.
+use Rattle.drawing_spec.specs.Drawing as drawn
+use Rattle.file_records.specs.declared.Settings.{Settings}
+
+abbrev pub settingsOf : Settings → drawn.Settings
+settingsOf s = record { width = s .width; height = s .height; pairing = s .pairing; flags = s .flags }

@@ -1,0 +1,79 @@
+-- Arrays to which a drawing was traced hold its graph. Assumes nothing.
+use mathlib.Core.Path.{_≡_, sym, ap, ap₂, subst, _∙_}
+use mathlib.Core.List.{List}
+use Prim.Native.Nat.{ℕ, _≤_}
+use native.Mathlib.Omega.{arith}
+use lib.ListN.{length}
+use Rattle.limits.specs.Limits.{mostEdges, edgeRoom}
+use Rattle.drawing_spec.specs.Drawing.{Point, Drawing}
+use Rattle.drawing_spec.specs.Members.{All}
+use Rattle.drawing_spec.specs.OnGrid.{OnGrid, AtEnds}
+use Rattle.drawing_spec.specs.Accepted.{Counts}
+use Rattle.graph_spec.specs.Graph.{Edge, Graph, noPoint, buildGraph}
+use Rattle.graph_spec.specs.Weights.{Searchable}
+use Rattle.graph_spec.proofs.Built.{built-inside, built-on}
+use Rattle.graph_counts.specs.Few.{Few}
+use Rattle.graph_counts.proofs.Nodes.{counted-few}
+use Rattle.graph_counts.proofs.Lengths.{drawn-searchable}
+use Rattle.graph_nodes.specs.Table.{Table}
+use Rattle.graph_nodes.specs.Held.{Held}
+use Rattle.graph_nodes.proofs.Points.{held-point}
+use Rattle.graph_adjacency.specs.Lists.{Adjacency, lists}
+use Rattle.graph_arrays.specs.Arrays.{pointIn, nodesIn, edgesIn, EdgesHeld, NodesHeld}
+use Rattle.graph_arrays.proofs.Tabulate.{tabulate-is}
+use Rattle.graph_arrays.proofs.Arrays.{edges-are, lists-linked}
+use Rattle.graph_strokes.specs.Step.{Traced, TracedTo}
+use Rattle.graph.specs.Built.{Built}
+
+module _ (d : Drawing) (c : Counts d) (lines : All (All OnGrid) (d .lines)) (links : All (AtEnds OnGrid) (d .links)) where
+  ns : List Point
+  ns = buildGraph d .nodes
+
+  es : List Edge
+  es = buildGraph d .edges
+
+  few : Few d
+  few = counted-few d c
+
+  few-edges : length es ≤ edgeRoom
+  unfolding es
+  few-edges = omega (arith, few .edges)
+
+  module _ (t : Table) (H : Held t ns) where
+    nodes-held : NodesHeld (length ns) (t .xs) (t .ys)
+    unfolding ns
+    nodes-held = record {
+      few = few .nodes;
+      xs-on = λ v. omega (arith, ap (λ (p : Point). p .x) (held-point t ns H v), built-on d lines links v .0);
+      ys-on = λ v. omega (arith, ap (λ (p : Point). p .y) (held-point t ns H v), built-on d lines links v .1);
+    }
+
+    nodes-are : nodesIn (length ns) (t .xs) (t .ys) ≡ ns
+    nodes-are = tabulate-is (pointIn (t .xs) (t .ys)) ns noPoint (λ v h. held-point t ns H v)
+
+  module _ (a : Adjacency) (is : a ≡ lists es) where
+    edges-here : edgesIn (length es) a ≡ es
+    unfolding ns es
+    edges-here = edges-are (length ns) es a few-edges (built-inside d) is (few .nodes)
+
+    edges-held : EdgesHeld (length ns) (length es) a
+    unfolding ns es
+    edges-held = record {
+      edges = lists-linked (length ns) es a few-edges (built-inside d) is (few .nodes);
+      room = omega (arith, few .edges);
+      searchable = subst (Searchable (length ns)) (sym edges-here) (drawn-searchable d lines links (omega (arith, few .nodes)));
+    }
+
+  pub traced-built : (p : Point) (s : Traced) → TracedTo (buildGraph d .nodes) (buildGraph d .edges) p s
+      → Built (buildGraph d) (s .nodeCount) (s .edgeCount) (s .table .xs) (s .table .ys) (s .edges)
+  unfolding ns es
+  traced-built p s T =
+      let t = s .table in
+      let a = s .edges in
+      subst (λ (n : ℕ). Built (buildGraph d) n (s .edgeCount) (t .xs) (t .ys) a) (sym (T .nodes-counted))
+      (subst (λ (m : ℕ). Built (buildGraph d) (length ns) m (t .xs) (t .ys) a) (sym (T .edges-counted))
+      (record {
+        nodes = nodes-held t (T .nodes-held);
+        edges = edges-held a (T .edges-held);
+        is = ap₂ (λ (vs : List Point) (fs : List Edge). record { nodes = vs; edges = fs }) (nodes-are t (T .nodes-held)) (edges-here a (T .edges-held));
+      }))

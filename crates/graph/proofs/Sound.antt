@@ -1,0 +1,32 @@
+-- Laws of specs/Sound.
+use mathlib.Core.Path.{_≡_, sym, ap, subst, _∙_}
+use mathlib.Core.List.{List}
+use Prim.Native.Nat.{ℕ}
+use Rattle.drawing_spec.specs.Drawing as drawn
+use mathlib.Core.Bool.{true}
+use Rattle.drawing_spec.specs.Members.{All}
+use Rattle.drawing_spec.specs.OnGrid.{OnGrid, AtEnds}
+use Rattle.drawing_spec.proofs.OnGrid.{lines-on, links-on}
+use Rattle.drawing_spec.specs.Read.{linksFit, recordsOf, drawingOf}
+use Rattle.drawing_spec.specs.Accepted.{Counts}
+use Rattle.drawing_spec.proofs.Accepted.{counts-fit}
+use Rattle.file.specs.declared.Verdict.the-variants.{Accepted}
+use Rattle.file_drawing.specs.Held.{drawingHeld}
+use Rattle.file.specs.Reading.{readingOf}
+use Rattle.file.proofs.ReadingLaws.{taken}
+use Rattle.file_drawing.specs.Back.{drawingFrom}
+use Rattle.file.proofs.ReadingLaws.{accepted-drawing}
+use Rattle.graph.specs.Sound.{Sound}
+
+pub accepted-sound : (file : List ℕ) → readingOf file .verdict ≡ Accepted → Sound (readingOf file .drawing)
+accepted-sound file h =
+    let t = taken file h in
+    let rs = recordsOf file in
+    let is : drawingOf rs ≡ drawingFrom (readingOf file .drawing) = sym (accepted-drawing file h) in
+    record {
+      held = t .drawing-is ∙ ap drawingHeld is;
+      counts = subst Counts is (counts-fit (drawingOf rs) (t .passes .few));
+      links-fit = subst (λ (d : drawn.Drawing). linksFit d ≡ true) is (t .links-fit);
+      lines-on = subst (λ (d : drawn.Drawing). All (All OnGrid) (d .lines)) is (lines-on rs);
+      links-on = subst (λ (d : drawn.Drawing). All (AtEnds OnGrid) (d .links)) is (links-on rs);
+    }

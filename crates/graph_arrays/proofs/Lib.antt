@@ -1,0 +1,7 @@
+-- Laws of the definitions in specs/.
+pub mod Ends
+pub mod Filled
+pub mod Tabulate
+pub mod Arrays
+pub mod NodeList
+pub mod Listing

@@ -1,0 +1,9 @@
+-- A graph that has room for its nodes and edges had room at every move before. Assumes nothing.
+use Prim.Native.Nat.{_≤_}
+use lib.ListN.{length}
+use Rattle.limits.specs.Limits.{mostNodes, mostEdges}
+use Rattle.graph_spec.specs.Graph.{Graph}
+
+-- at most 1,534 nodes and 4,000 edges
+abbrev pub Room : Graph → Type 0
+Room g = (length (g .nodes) ≤ mostNodes) × (length (g .edges) ≤ mostEdges)

@@ -1,0 +1,3 @@
+-- The ends of links, filed by the segment that they split.
+pub mod Ends
+pub mod Gather

@@ -1,0 +1,4 @@
+-- Laws of the definitions in specs/.
+pub mod Buffer
+pub mod Next
+pub mod Sorted

@@ -1,0 +1,23 @@
+-- Points in two flat lists, by their places. Assumes nothing.
+use mathlib.Core.List.{List}
+use Prim.Native.Nat.{ℕ, _≤_, _^_}
+use lib.ListN.{getD}
+use Rattle.drawing_spec.specs.Drawing.{Point}
+use Rattle.graph_splits.specs.Next.{at}
+
+pub record Points : Type 0 where
+  pub xs : List ℕ
+  pub ys : List ℕ
+
+abbrev pub points : List ℕ → List ℕ → Points
+points xs ys = record { xs = xs; ys = ys }
+
+abbrev pub pointIn : Points → ℕ → Point
+pointIn ps i = at (getD (ps .xs) i 0) (getD (ps .ys) i 0)
+
+-- a place that lengths can be made of
+abbrev pub Low : Point → Type 0
+Low p = (p .x ≤ 2 ^ 24) × (p .y ≤ 2 ^ 24)
+
+pub record LowPoints (ps : Points) : Type 0 where
+  pub low : (i : ℕ) → Low (pointIn ps i)

@@ -1,0 +1,26 @@
+-- Check 7 worked out on patterns at its edges.
+use Prim.Native.Nat.{_+_, _-_, _*_}
+use mathlib.Core.Path.{_≡_, refl}
+use mathlib.Core.List.{[], _∷_, map}
+use Rattle.grid.specs.declared.Place.the-variants.{On, Off}
+use Rattle.grid.specs.Grid.{origin, readOnGrid, readPlace}
+
+-- 0, 1/1024, -1, 4096 and -4096
+on-the-grid : map readPlace (0 ∷ 0x3F50000000000000 ∷ 0xBFF0000000000000 ∷ 0x40B0000000000000 ∷ 0xC0B0000000000000 ∷ [])
+    ≡ On origin ∷ On (origin + 1) ∷ On (origin - 1024) ∷ On (2 * origin) ∷ On 0 ∷ []
+unfolding readOnGrid
+on-the-grid = refl
+
+minus-zero : readPlace 0x8000000000000000 ≡ Off
+unfolding readOnGrid
+minus-zero = refl
+
+-- 1/2048; 1 and -1 with the lowest of the 52 digits set
+between-steps : map readPlace (0x3F40000000000000 ∷ 0x3FF0000000000001 ∷ 0xBFF0000000000001 ∷ []) ≡ Off ∷ Off ∷ Off ∷ []
+unfolding readOnGrid
+between-steps = refl
+
+-- a step past 4096 and past -4096, infinity, and a NaN
+past-the-grid : map readPlace (0x40B0000040000000 ∷ 0xC0B0000040000000 ∷ 0x7FF0000000000000 ∷ 0x7FF8000000000000 ∷ []) ≡ Off ∷ Off ∷ Off ∷ Off ∷ []
+unfolding readOnGrid
+past-the-grid = refl

@@ -1,0 +1,41 @@
+-- What the code's constants are: the limits, sizes and numbers of the definitions.
+use Rattle.limits.specs.declared.Limits.{Limits}
+use Rattle.limits.specs.declared.Refusals.{Refusals}
+use Rattle.limits.specs.Limits as named
+
+abbrev pub limitsAre : Limits
+limitsAre = record {
+  bytes = named.mostBytes;
+  side = named.mostSide;
+  pairing = named.mostPairing;
+  flags = named.mostFlags;
+  lines = named.mostLines;
+  points = named.mostPoints;
+  links = named.mostLinks;
+  odd = named.mostOdd;
+  edges = named.mostEdges;
+  splits = named.mostSplits;
+  nodes = named.mostNodes;
+  pairs = named.mostPairs;
+  «edge_room» = named.edgeRoom;
+  «arc_room» = named.arcRoom;
+  «line_room» = named.lineRoom;
+}
+
+abbrev pub refusalsAre : Refusals
+refusalsAre = record {
+  bytes = named.refusedBytes;
+  cut = named.refusedCut;
+  kinds = named.refusedKinds;
+  lengths = named.refusedLengths;
+  settings = named.refusedSettings;
+  counts = named.refusedCounts;
+  coordinates = named.refusedCoordinates;
+  links = named.refusedLinks;
+  apart = named.refusedApart;
+  odd = named.refusedOdd;
+  tables = named.refusedTables;
+  path = named.refusedPath;
+  edges = named.refusedEdges;
+  output = named.refusedOutput;
+}

@@ -1,0 +1,156 @@
+-- Each way through `plan_graph` gives the plan of the graph that was read off the arrays.
+use mathlib.Core.Path.{_≡_, refl, sym, ap, subst, _∙_}
+use mathlib.Core.List.{List, [], _∷_}
+use mathlib.Core.Bool.{Bool, true, false}
+use Prim.Native.Nat.{ℕ, _+_, _*_}
+use native.Mathlib.Omega.{arith}
+use lib.ListN.{length}
+use lib.Dec.{ltb}
+use lib.Ieee.{Float, binary64, toBits}
+use Rattle.limits.specs.Limits.{mostOdd, mostEdges, refusedOdd, refusedTables, refusedEdges, refusedOutput}
+use Rattle.sums.specs.Key.{Nonneg}
+use Rattle.drawing_spec.specs.Drawing.{Point, Settings}
+use Rattle.drawing_spec.specs.Refusal.{Condition, condition, Verdict, refused, accepted, verdict}
+use Rattle.graph_spec.specs.Graph.{Edge, Graph}
+use Rattle.graph_spec.specs.Odd.{oddNodes}
+use Rattle.graph_spec.specs.Reach.{allReached}
+use Rattle.graph_spec.specs.Weights.{Searchable}
+use Rattle.repair_spec.specs.Repair.{Repair, Repairing, stopped, repaired, tooManyOdd, tableShort, fixParity}
+use Rattle.repair_pairs.specs.Refusal.{tableConditions}
+use Rattle.repair_retrace.specs.Outcome.{outcome}
+use Rattle.repair.specs.Parity.{Value, refusal, values, valueOf, parityFor}
+use Rattle.walk_spec.specs.Line.{lineOf}
+use Rattle.planner_spec.specs.LineRecord.{lineRecord, inFront}
+use Rattle.planner_spec.specs.Plan as plan
+use Rattle.planner_spec.proofs.Plan.{plan-many, plan-tables, plan-stopped, plan-output, plan-drawn, line-repaired, answer-repaired}
+use Rattle.planner_graph.proofs.Sum.{repair-summed}
+
+module _ (g : Graph) (s : Settings) (lent : plan.Lent) where
+  -- how many nodes are odd, with these edges
+  abbrev odd : List Edge → ℕ
+  odd es = length (oddNodes (length (g .nodes)) es)
+
+  abbrev parity : Value
+  parity = parityFor mostEdges refusedEdges g s (lent .floats) (lent .bytes)
+
+  -- by the truth of conditions 10 and 11
+  abbrev by : Bool → Bool → Value
+  by many short =
+      elim (verdict (condition refusedOdd many ∷ condition refusedTables short ∷ [])) as (λ v. Value) [
+        | refused k ↦ refusal k
+        | accepted ↦ valueOf (length (g .nodes)) (odd (g .edges)) (outcome (plan.repairOf g s))
+      ]
+
+  abbrev Many : Bool → Type 0
+  Many b = tooManyOdd mostOdd s (odd (g .edges)) ≡ b
+
+  abbrev Short : Bool → Type 0
+  Short b = tableShort mostOdd s (odd (g .edges)) (lent .floats) (lent .bytes) ≡ b
+
+  parity-by : (b c : Bool) → Many b → Short c → parity ≡ by b c
+  unfolding parityFor tableConditions plan.repairOf
+  parity-by b c p q = ap (λ (t : Bool). by t (tableShort mostOdd s (odd (g .edges)) (lent .floats) (lent .bytes))) p ∙ ap (by b) q
+
+  -- what a repair without refusal is
+  pub record Mended (x : Float) (before after : ℕ) (es : List Edge) : Type 0 where
+    pub few : Many false
+    pub long : Short false
+    pub repair : Repair
+    pub repairs : plan.repairOf g s ≡ repaired repair
+    pub sum-is : repair .sum ≡ x
+    pub before-is : odd (g .edges) ≡ before
+    pub after-is : odd (repair .edges) ≡ after
+    pub edges-are : repair .edges ≡ es
+
+  pub mended : (x : Float) (before after : ℕ) (es : List Edge) → values x before after es ≡ parity → Mended x before after es
+  unfolding verdict
+  mended x before after es e = go (tooManyOdd mostOdd s (odd (g .edges))) (tableShort mostOdd s (odd (g .edges)) (lent .floats) (lent .bytes)) refl refl
+    where
+      one : Value → ℕ
+      one (refusal k) = 0
+      one (values y b a fs) = 1
+
+      sum : Value → Float
+      sum (refusal k) = x
+      sum (values y b a fs) = y
+
+      first : Value → ℕ
+      first (refusal k) = 0
+      first (values y b a fs) = b
+
+      second : Value → ℕ
+      second (refusal k) = 0
+      second (values y b a fs) = a
+
+      edges : Value → List Edge
+      edges (refusal k) = []
+      edges (values y b a fs) = fs
+
+      repaired-so : Many false → Short false → (r : Repairing) → plan.repairOf g s ≡ r → values x before after es ≡ valueOf (length (g .nodes)) (odd (g .edges)) (outcome r) → Mended x before after es
+      repaired-so p q (stopped k) i h = absurd (let z : _≡_ {A = ℕ} 1 0 = ap one h in omega arith)
+      repaired-so p q (repaired r) i h = record {
+        few = p;
+        long = q;
+        repair = r;
+        repairs = i;
+        sum-is = sym (ap sum h);
+        before-is = sym (ap first h);
+        after-is = sym (ap second h);
+        edges-are = sym (ap edges h);
+      }
+
+      go : (b c : Bool) → Many b → Short c → Mended x before after es
+      go true c p q = absurd (let z : _≡_ {A = ℕ} 1 0 = ap one (e ∙ parity-by true c p q) in omega arith)
+      go false true p q = absurd (let z : _≡_ {A = ℕ} 1 0 = ap one (e ∙ parity-by false true p q) in omega arith)
+      go false false p q = repaired-so p q (plan.repairOf g s) refl (e ∙ parity-by false false p q)
+
+  module _ (reached : allReached (length (g .nodes)) (g .edges) ≡ true) where
+    pub refused-planned : (k : ℕ) → refusal k ≡ parity → plan.planGraph g s lent ≡ plan.refuse k lent
+    unfolding verdict plan.oddOf
+    refused-planned k e = go (tooManyOdd mostOdd s (odd (g .edges))) (tableShort mostOdd s (odd (g .edges)) (lent .floats) (lent .bytes)) refl refl
+      where
+        number : Value → ℕ
+        number (refusal j) = j
+        number (values y b a fs) = k
+
+        one : Value → ℕ
+        one (refusal j) = 0
+        one (values y b a fs) = 1
+
+        refuse-by : (j : ℕ) → j ≡ k → plan.planGraph g s lent ≡ plan.refuse j lent → plan.planGraph g s lent ≡ plan.refuse k lent
+        refuse-by j i h = h ∙ ap (λ (m : ℕ). plan.refuse m lent) i
+
+        stopped-so : Many false → Short false → (r : Repairing) → plan.repairOf g s ≡ r → refusal k ≡ valueOf (length (g .nodes)) (odd (g .edges)) (outcome r) → plan.planGraph g s lent ≡ plan.refuse k lent
+        stopped-so p q (stopped j) i h = refuse-by j (sym (ap number h)) (plan-stopped g s lent reached p q j i)
+        stopped-so p q (repaired r) i h = absurd (let z : _≡_ {A = ℕ} 0 1 = ap one h in omega arith)
+
+        go : (b c : Bool) → Many b → Short c → plan.planGraph g s lent ≡ plan.refuse k lent
+        go true c p q = refuse-by refusedOdd (sym (ap number (e ∙ parity-by true c p q))) (plan-many g s lent reached p)
+        go false true p q = refuse-by refusedTables (sym (ap number (e ∙ parity-by false true p q))) (plan-tables g s lent reached p q)
+        go false false p q = stopped-so p q (plan.repairOf g s) refl (e ∙ parity-by false false p q)
+
+    module _ (x : Float) (before after : ℕ) (es : List Edge) (M : Mended x before after es) (line : List Point) (line-is : line ≡ lineOf s (g .nodes) es) where
+      line-for : plan.lineFor g s ≡ line
+      line-for = line-repaired g s (M .repair) (M .repairs) ∙ ap (lineOf s (g .nodes)) (M .edges-are) ∙ sym line-is
+
+      pub short-planned : ltb (length (lent .output)) (6 + 16 * length line) ≡ true → plan.planGraph g s lent ≡ plan.refuse refusedOutput lent
+      unfolding plan.oddOf
+      short-planned h =
+          plan-output g s lent reached (M .few) (M .long) (M .repair) (M .repairs) (ap (λ (l : List Point). ltb (length (lent .output)) (6 + 16 * length l)) line-for ∙ h)
+
+      pub line-planned : ltb (length (lent .output)) (6 + 16 * length line) ≡ false
+          → plan.planGraph g s lent ≡ record { answer = plan.planned (record { retrace = toBits binary64 x; before = before; after = after; points = length line }); output = inFront (lineRecord line) (lent .output) }
+      unfolding plan.oddOf
+      line-planned h =
+          let open-room = ap (λ (l : List Point). ltb (length (lent .output)) (6 + 16 * length l)) line-for ∙ h in
+          let answer = answer-repaired g s (M .repair) (M .repairs) in
+          let points : lineOf s (g .nodes) (M .repair .edges) ≡ line = sym (line-repaired g s (M .repair) (M .repairs)) ∙ line-for in
+          plan-drawn g s lent reached (M .few) (M .long) (M .repair) (M .repairs) open-room
+          ∙ (λ i. record {
+            answer = plan.planned ((answer ∙ (λ j. record { retrace = toBits binary64 (M .sum-is j); before = M .before-is j; after = M .after-is j; points = length (points j) })) i);
+            output = inFront (lineRecord (line-for i)) (lent .output);
+          })
+
+  pub mended-number : (x : Float) (before after : ℕ) (es : List Edge) → Mended x before after es → Searchable (length (g .nodes)) (g .edges) → Nonneg binary64 x
+  unfolding plan.repairOf
+  mended-number x before after es M S = subst (Nonneg binary64) (M .sum-is) (repair-summed mostEdges refusedEdges g s S (M .repair) (M .repairs))

@@ -1,0 +1,2 @@
+-- The planner's answer, and what it asks of a graph in arrays.
+pub mod Answer

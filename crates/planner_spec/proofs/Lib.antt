@@ -1,0 +1,11 @@
+-- Laws of the definitions in specs/. Proved has demand 3, FileDecides that nothing but the file decides, and Samples the starred drawings.
+pub mod Counted
+pub mod Drawn
+pub mod Examples
+pub mod FileDecides
+pub mod LineEnds
+pub mod LineRecord
+pub mod Plan
+pub mod Proved
+pub mod Numbered
+pub mod Samples

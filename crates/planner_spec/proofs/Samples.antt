@@ -1,0 +1,123 @@
+-- The starred drawings of document 01, as one table, and one theorem that computes the planner's whole answer to each: retrace, counts, every point and every byte.
+use Prim.Native.Nat.{ℕ, _+_, _*_, _^_}
+use mathlib.Core.Path.{_≡_, refl}
+use mathlib.Core.List.{List, [], _∷_, _++_, map}
+use lib.ListN.{length, replicate}
+use Rattle.grid.specs.Grid.{origin, gridExponent}
+use Rattle.drawing_spec.specs.Bytes.{bytes}
+use Rattle.drawing_spec.specs.Drawing.{Point}
+use Rattle.planner_spec.specs.LineRecord.{pointBytes, lineRecord}
+use Rattle.planner_spec.specs.Plan.{refusal, planned, Outcome, plan}
+
+-- ---- files. Coordinates are in pixels; the canvas is 10 by 10.
+
+abbrev at : ℕ → ℕ → Point
+at x y = record { x = origin + x * 2 ^ gridExponent; y = origin + y * 2 ^ gridExponent }
+
+fileRecord : ℕ → List ℕ → List ℕ
+unfolding bytes
+fileRecord kind body = bytes 4 (length body) ++ bytes 2 kind ++ body
+
+settings : ℕ → ℕ → List ℕ
+unfolding fileRecord
+settings pairing flags = fileRecord 1 (bytes 4 10 ++ bytes 4 10 ++ pairing ∷ flags ∷ [])
+
+line : List Point → List ℕ
+unfolding fileRecord pointBytes
+line ps = fileRecord 2 (pointBytes ps)
+
+-- a link from segment 0 of line 0 to segment 0 of line 1
+link : Point → Point → List ℕ
+unfolding fileRecord pointBytes
+link p q = fileRecord 3 (bytes 2 0 ++ bytes 2 0 ++ bytes 2 1 ++ bytes 2 0 ++ pointBytes (p ∷ q ∷ []))
+
+segment : List ℕ
+unfolding line
+segment = line (at 0 0 ∷ at 3 4 ∷ [])
+
+cross : List ℕ
+unfolding line
+cross = line (at 0 4 ∷ at 4 4 ∷ at 8 4 ∷ []) ++ line (at 4 0 ∷ at 4 4 ∷ at 4 8 ∷ [])
+
+lineAndDot : List ℕ
+unfolding line
+lineAndDot = line (at 0 0 ∷ at 8 0 ∷ []) ++ line (at 4 4 ∷ [])
+
+-- ---- cases
+
+record Case : Type 0 where
+  file : List ℕ
+  floats : ℕ
+  output : List ℕ
+  want : Outcome
+
+-- An accepted drawing is lent an output two bytes longer than its record, and those keep their value. The retrace is given by its f64's bits.
+drawn : List ℕ → ℕ → ℕ → ℕ → ℕ → List Point → Case
+unfolding lineRecord
+drawn file floats retrace before after points = record {
+  file = file;
+  floats = floats;
+  output = replicate (6 + 16 * length points + 2) 7;
+  want = record {
+    answer = planned (record { retrace = retrace; before = before; after = after; points = length points });
+    output = lineRecord points ++ 7 ∷ 7 ∷ [];
+  };
+}
+
+-- a refused one keeps all of the output's bytes
+notDrawn : List ℕ → ℕ → ℕ → Case
+notDrawn file floats number = record { file = file; floats = floats; output = replicate 200 7; want = record { answer = refusal number; output = replicate 200 7 } }
+
+-- 0.0, 4.0, 5.0, 8.0 and 16.0
+table : List Case
+unfolding drawn notDrawn settings line link segment cross lineAndDot
+table =
+    drawn (settings 0 0) 0 0 0 0 []
+    ∷ drawn (settings 0 0 ++ line (at 2 3 ∷ [])) 0 0 0 0 (at 2 3 ∷ [])
+    ∷ drawn (settings 0 0 ++ line (at 2 3 ∷ at 2 3 ∷ [])) 0 0 0 0 (at 2 3 ∷ [])
+    ∷ drawn (settings 0 0 ++ segment) 0 0 2 2 (at 0 0 ∷ at 3 4 ∷ [])
+    ∷ drawn (settings 0 2 ++ segment) 0 0 2 2 (at 3 4 ∷ at 0 0 ∷ [])
+    ∷ drawn (settings 0 1 ++ segment) 0 0x4014000000000000 2 0 (at 0 0 ∷ at 3 4 ∷ at 0 0 ∷ [])
+    ∷ drawn (settings 0 0 ++ cross) 0 0x4020000000000000 4 2 (at 4 8 ∷ at 4 4 ∷ at 4 0 ∷ at 4 4 ∷ at 0 4 ∷ at 4 4 ∷ at 8 4 ∷ [])
+    ∷ drawn (settings 0 1 ++ cross) 0 0x4030000000000000 4 0 (at 0 4 ∷ at 4 4 ∷ at 4 8 ∷ at 4 4 ∷ at 4 0 ∷ at 4 4 ∷ at 8 4 ∷ at 4 4 ∷ at 0 4 ∷ [])
+    ∷ drawn (settings 1 0 ++ cross) 32 0x4020000000000000 4 2 (at 0 4 ∷ at 4 4 ∷ at 4 0 ∷ at 4 4 ∷ at 4 8 ∷ at 4 4 ∷ at 8 4 ∷ [])
+    ∷ notDrawn (settings 1 0 ++ cross) 31 11
+    ∷ drawn (settings 0 0 ++ lineAndDot ++ link (at 4 0) (at 4 4)) 0 0x4010000000000000 4 2 (at 8 0 ∷ at 4 0 ∷ at 0 0 ∷ at 4 0 ∷ at 4 4 ∷ [])
+    ∷ notDrawn (settings 0 0 ++ lineAndDot) 0 9
+    ∷ drawn (settings 0 0 ++ line (at 4096 4096 ∷ [])) 0 0 0 0 (at 4096 4096 ∷ [])
+    ∷ notDrawn (settings 0 0 ++ line (record { x = 2 * origin + 1; y = origin } ∷ [])) 0 7
+    ∷ []
+
+-- Optimal's table of 2 ^ 4 bytes is lent; 2 ^ 4 + 4² entries of f64 are just enough
+given : Case → Outcome
+unfolding plan
+given c = plan (c .file) (record { floats = c .floats; bytes = 16; output = c .output })
+
+starred : map given table ≡ map (λ (c : Case). c .want) table
+unfolding given table
+starred = refl
+
+-- The bytes of a file and of its answer as they stand, those of document 01's example: so the cases above are of the files that they seem to be. The record has 38 bytes:
+-- they fit an output of 38, and not one of 37.
+exampleFile : List ℕ
+exampleFile =
+    10 ∷ 0 ∷ 0 ∷ 0 ∷ 1 ∷ 0
+    ∷ 10 ∷ 0 ∷ 0 ∷ 0 ∷ 10 ∷ 0 ∷ 0 ∷ 0 ∷ 0 ∷ 0
+    ∷ 32 ∷ 0 ∷ 0 ∷ 0 ∷ 2 ∷ 0
+    ∷ 0 ∷ 0 ∷ 0 ∷ 0 ∷ 0 ∷ 0 ∷ 0 ∷ 0 ∷ 0 ∷ 0 ∷ 0 ∷ 0 ∷ 0 ∷ 0 ∷ 0 ∷ 0
+    ∷ 0 ∷ 0 ∷ 0 ∷ 0 ∷ 0 ∷ 0 ∷ 8 ∷ 64 ∷ 0 ∷ 0 ∷ 0 ∷ 0 ∷ 0 ∷ 0 ∷ 16 ∷ 64 ∷ []
+
+exampleRecord : List ℕ
+exampleRecord =
+    32 ∷ 0 ∷ 0 ∷ 0 ∷ 4 ∷ 0
+    ∷ 0 ∷ 0 ∷ 0 ∷ 0 ∷ 0 ∷ 0 ∷ 0 ∷ 0 ∷ 0 ∷ 0 ∷ 0 ∷ 0 ∷ 0 ∷ 0 ∷ 0 ∷ 0
+    ∷ 0 ∷ 0 ∷ 0 ∷ 0 ∷ 0 ∷ 0 ∷ 8 ∷ 64 ∷ 0 ∷ 0 ∷ 0 ∷ 0 ∷ 0 ∷ 0 ∷ 16 ∷ 64 ∷ []
+
+example : plan exampleFile (record { floats = 0; bytes = 0; output = replicate 38 7 })
+    ≡ record { answer = planned (record { retrace = 0; before = 2; after = 2; points = 2 }); output = exampleRecord }
+unfolding plan exampleFile exampleRecord
+example = refl
+
+example-short : plan exampleFile (record { floats = 0; bytes = 0; output = replicate 37 7 }) ≡ record { answer = refusal 14; output = replicate 37 7 }
+unfolding plan exampleFile
+example-short = refl

@@ -1,0 +1,2 @@
+-- The line's record, written into the output.
+pub mod Written

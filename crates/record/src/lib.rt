@@ -1,0 +1,63 @@
+// The line written as a record of kind 4: a 4-byte body length, a 2-byte kind, then 16 bytes for each point,
+// every number with its lowest byte first.
+ghost use mathlib.Core.Path.{_≡_};
+ghost use Prim.Native.Nat.{_+_, _*_, _≤_, _<_};
+ghost use lib.ListN.{length};
+ghost use lib.Seq.{sets};
+ghost use Rattle.planner_spec.specs.LineRecord.{lineRecord, inFront};
+ghost use Rattle.limits.specs.Limits.{mostNodes, lineRoom};
+ghost use Rattle.drawing_spec.specs.Bytes.{bytes};
+ghost use Rattle.graph_arrays.specs.NodeList.{NodeList};
+ghost use Rattle.record.specs.Written.{placeBytes, pointsIn};
+use limits::LINE_ROOM;
+use limits::MOST_NODES;
+
+// The kind of a line that the planner writes.
+const LINE: u64 = 4;
+
+// Puts a number into `size` bytes from a place on.
+fn write_number(output: &mut [u8], at: usize, size: usize, n: u64)
+    requires { ⌜ at + size ≤ length (now output) ⌝ }
+    ensures { λ _. ⌜ now (output .exit) ≡ sets (now (output .entry)) at (bytes size n) ⌝ }
+{
+    let mut place = at;
+    let mut left = size;
+    let mut rest = n;
+    while left > 0 {
+        output[place] = (rest % 256) as u8;
+        place += 1;
+        left -= 1;
+        rest /= 256;
+    }
+}
+
+// Puts the point at the places x and y into 16 bytes.
+fn write_point(output: &mut [u8], at: usize, x: u32, y: u32)
+    requires { ⌜ at + 16 ≤ length (now output) ⌝ }
+    ensures { λ _. ⌜ now (output .exit) ≡ sets (now (output .entry)) at (placeBytes x y) ⌝ }
+{
+    write_number(output, at, 8, grid::write_place(x));
+    write_number(output, at + 8, 8, grid::write_place(y));
+}
+
+// Writes the record of a line of `count` nodes into an output that has room for it. Later bytes keep their value.
+pub fn write_line(
+    xs: &[u32; MOST_NODES],
+    ys: &[u32; MOST_NODES],
+    line: &[u16; LINE_ROOM],
+    count: usize,
+    output: &mut [u8],
+)
+    requires nodes { ⌜ NodeList mostNodes lineRoom (now line) count ⌝ }
+    requires room { ⌜ 6 + 16 * count ≤ length (now output) ⌝ }
+    ensures { λ _. ⌜ now (output .exit) ≡ inFront (lineRecord (pointsIn (now (xs .entry)) (now (ys .entry)) (now (line .entry)) count)) (now (output .entry)) ⌝ }
+{
+    write_number(output, 0, 4, 16 * count as u64);
+    write_number(output, 4, 2, LINE);
+    let mut i = 0;
+    while i < count {
+        let v = widen::wide(line[i]);
+        write_point(output, 6 + 16 * i, xs[v], ys[v]);
+        i += 1;
+    }
+}

@@ -1,6 +1,0 @@
--- The records of a drawing file: where each one stands, and what it holds.
-pub mod Walk
-pub mod Numbers
-pub mod Body
-pub mod View
-pub mod Made

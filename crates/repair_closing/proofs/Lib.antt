@@ -1,0 +1,2 @@
+-- What closing does, by what code finds.
+pub mod Closing

@@ -1,0 +1,2 @@
+-- The rows of distances between odd nodes.
+pub mod Rows

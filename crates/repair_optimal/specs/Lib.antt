@@ -1,0 +1,2 @@
+-- What the code reads of the table of partners.
+pub mod Partners

@@ -1,0 +1,25 @@
+-- Conditions 10 and 11 of document 01, for n odd nodes and tables of these lengths.
+use mathlib.Core.List.{List, [], _∷_}
+use Prim.Native.Nat.{ℕ, _+_, _*_, _^_, _≤_}
+use Rattle.limits.specs.Limits.{mostOdd, refusedOdd, refusedTables}
+use Rattle.drawing_spec.specs.Drawing.{Settings}
+use Rattle.drawing_spec.specs.Refusal.{Condition, condition, Verdict, refused, accepted, verdict}
+use Rattle.repair_spec.specs.Repair.{tooManyOdd, tableShort}
+
+unfoldable pub tableConditions : Settings → ℕ → ℕ → ℕ → List Condition
+unfolding tooManyOdd tableShort
+tableConditions s n floats bytes = condition refusedOdd (tooManyOdd mostOdd s n) ∷ condition refusedTables (tableShort mostOdd s n floats bytes) ∷ []
+
+-- 0 where none holds
+abbrev pub numberOf : Verdict → ℕ
+numberOf (refused k) = k
+numberOf accepted = 0
+
+abbrev pub refusal : Settings → ℕ → ℕ → ℕ → ℕ
+refusal s n floats bytes = numberOf (verdict (tableConditions s n floats bytes))
+
+-- what Optimal needs for n odd nodes
+pub record Room (n floats bytes : ℕ) : Type 0 where
+  pub few : n ≤ mostOdd
+  pub for-floats : 2 ^ n + n * n ≤ floats
+  pub for-bytes : 2 ^ n ≤ bytes

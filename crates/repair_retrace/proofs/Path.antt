@@ -1,0 +1,73 @@
+-- The shortest path that code finds and keeps at the end of an array. Assumes nothing.
+use mathlib.Core.Path.{_≡_, sym, ap, subst, _∙_}
+use mathlib.Core.Logic.{inl, inr}
+use mathlib.Core.List.{List, [], _∷_}
+use Prim.Native.Nat.{ℕ, zero, suc, _+_, _-_, _≤_, _<_}
+use native.Mathlib.Omega.{arith}
+use lib.ListN.{length, getD, drop, length-drop}
+use lib.Seq.{getD-drop}
+use lib.Ieee.{Float, binary64}
+use Rattle.limits.specs.Limits.{mostNodes}
+use Rattle.sums.specs.Key.{key}
+use Rattle.drawing_spec.specs.Members.{All}
+use Rattle.graph_spec.specs.Graph.{Edge}
+use Rattle.graph_spec.specs.Ways.{Inside}
+use Rattle.graph_spec.specs.Weights.{Searchable}
+use Rattle.repair_spec.specs.Distance.{distanceAt, distances}
+use Rattle.repair_spec.specs.Retrace.{found, wayBack, shortestPath}
+use Rattle.repair_spec.specs.Relax.{keyAt}
+use Rattle.repair_spec.proofs.Along.{shortest-along}
+use Rattle.repair_spec.proofs.Applied.{walk-inside}
+use Rattle.repair_early_exit.proofs.WayBack.{Serves}
+use Rattle.repair_early_exit.proofs.EarlyExit.{serves-exit}
+use Rattle.repair_search.specs.Search.{Found}
+use Rattle.repair_search.proofs.Search.{goal-same, same-or-far}
+use Rattle.repair_copies.specs.Laying.{copiesFrom}
+
+-- The way back by the distances that are found up to the goal is the definition's.
+pub found-shortest : (n : ℕ) (es : List Edge) → Searchable n es → (s t : ℕ) → s < n → (ds : List Float) → Found es s t ds → wayBack n es ds s t [] ≡ shortestPath n es s t
+found-shortest n es G s t isNode ds F = serves-exit n es G s t ds (F .nonneg) serves
+  where
+    same : distanceAt ds t ≡ distanceAt (distances n es s) t
+    same = goal-same es s t ds F n (G .inside) (G .weights) isNode
+
+    serves : Serves t (distances n es s) ds
+    serves = record {
+      goal = same;
+      each = λ v. elim (same-or-far es s t ds F n (G .inside) (G .weights) isNode v) [
+        | inl e ↦ inl e
+        | inr p ↦ inr (
+          subst (λ (x : Float). key binary64 x ≤ keyAt (distances n es s) v) same (p .1),
+          subst (λ (x : Float). key binary64 x ≤ keyAt ds v) same (p .0),
+        )
+      ];
+    }
+
+all-at : (P : ℕ → Type 0) (xs : List ℕ) → All P xs → (i : ℕ) → i < length xs → P (getD xs i 0)
+all-at P [] a i h = absurd (omega (arith, h))
+all-at P (x ∷ xs) a zero h = a .0
+all-at P (x ∷ xs) a (suc i) h = all-at P xs (a .1) i (omega arith)
+
+-- A path that is found leads along nodes. It stands in an array from the place `first` on.
+module _ (n : ℕ) (es : List Edge) (inside : Inside n es) (s t : ℕ) (isNode : s < n) (path : List ℕ) (long : length path ≡ mostNodes) (first : ℕ)
+    (is : found (drop first path) ≡ shortestPath n es s t) where
+  path-inside : All (λ (v : ℕ). v < n) (drop first path)
+  path-inside =
+      let a = shortest-along n es s t (drop first path) (sym is) in
+      subst (All (λ (v : ℕ). v < n)) (sym (a .1)) (walk-inside n es s (a .0) t inside isNode (a .2))
+
+  pub first-inside : first < mostNodes
+  first-inside =
+      let a = shortest-along n es s t (drop first path) (sym is) in
+      let some : length (drop first path) ≡ suc (length (a .0)) = ap length (a .1) in
+      omega (arith, length-drop first path)
+
+  pub nodes-inside : (j : ℕ) → first ≤ j → j < mostNodes → getD path j 0 < n
+  nodes-inside j l h =
+      let there : first + (j - first) ≡ j = omega arith in
+      let at-j : getD (drop first path) (j - first) 0 ≡ getD path j 0 = getD-drop first path (j - first) 0 ∙ ap (λ (k : ℕ). getD path k 0) there in
+      subst (λ (v : ℕ). v < n) at-j (all-at (λ (v : ℕ). v < n) (drop first path) path-inside (j - first) (omega (arith, length-drop first path)))
+
+-- so many copies are laid along it
+pub copies-are : (path : List ℕ) (first : ℕ) → length path ≡ mostNodes → length (drop first path) - 1 ≡ copiesFrom first
+copies-are path first h = omega (arith, length-drop first path)

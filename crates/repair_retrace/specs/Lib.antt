@@ -1,0 +1,3 @@
+-- Retraces between the nodes of pairs, one after the other.
+pub mod Outcome
+pub mod Answer

@@ -1,0 +1,16 @@
+-- Which odd nodes are paired, and which way each retrace goes.
+-- least distances:
+pub mod Distance
+-- the shortest path between two nodes, from its end back:
+pub mod Retrace
+-- the copies laid along it:
+pub mod Copies
+-- which nodes are paired, by Greedy and by Optimal:
+pub mod Pairing
+pub mod PairsIn
+-- fix_parity, of these, and conditions 10 and 11:
+pub mod Repair
+-- Predicates that contracts and laws name: the least cost of all ways, what a search keeps to, and what it finds up to a limit:
+pub mod Cost
+pub mod Relax
+pub mod Rounds

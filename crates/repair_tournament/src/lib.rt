@@ -1,0 +1,67 @@
+// The least of n values that change, by a tournament: the value v stands at n + v, and each place j from 1
+// up to n - 1 has the lesser of what stands at 2 * j and 2 * j + 1. So place 1 has the least of all, and a
+// value that changes touches only the places on its way up, which halving gives.
+ghost use mathlib.Core.Path.{_≡_};
+ghost use mathlib.Core.Bool.{Bool, true, false};
+ghost use Prim.Native.Nat.{ℕ, _<_, _≤_};
+ghost use lib.Ieee.{binary64};
+ghost use Rattle.limits.specs.Limits.{mostNodes};
+ghost use Rattle.sums.specs.Key.{Nonneg};
+ghost use Rattle.repair_tournament.specs.Tree.{lesser, at, value, infinity, Tree, Stored};
+use limits::MOST_NODES;
+
+// More than any value: none is stored.
+pub fn infinity() -> f64
+    ensures { λ r. ⌜ r ≡ infinity ⌝ }
+{
+    f64::from_bits(0x7ff0_0000_0000_0000)
+}
+
+fn lesser(x: f64, y: f64) -> f64
+    ensures { λ r. ⌜ r ≡ lesser x y ⌝ }
+{
+    if y < x { y } else { x }
+}
+
+fn differ(x: f64, y: f64) -> bool
+    requires { ⌜ Nonneg binary64 x × Nonneg binary64 y ⌝ }
+    ensures { λ r. ⌜ (r ≡ false → x ≡ y) ⌝ }
+{
+    if x < y {
+        return true;
+    }
+    y < x
+}
+
+// Stores x as the value v.
+pub fn store(tree: &mut [f64; 2 * MOST_NODES], n: usize, v: usize, x: f64)
+    requires { ⌜ (n ≤ mostNodes) × (v < n) × Tree n (now tree) × Nonneg binary64 x ⌝ }
+    ensures { λ _. ⌜ Stored n v x (now (tree .entry)) (now (tree .exit)) ⌝ }
+{
+    let place = n + v;
+    tree[place] = x;
+    let mut i = place / 2;
+    while 0 < i {
+        let winner = lesser(tree[2 * i], tree[2 * i + 1]);
+        if !differ(tree[i], winner) {
+            return;
+        }
+        tree[i] = winner;
+        i = i / 2;
+    }
+}
+
+// Which value is the least; the one with the lowest place where several are.
+pub fn least(tree: &[f64; 2 * MOST_NODES], n: usize) -> usize
+    requires { ⌜ (0 < n) × (n ≤ mostNodes) × Tree n (now tree) ⌝ }
+    ensures { λ r. ⌜ (r < n) × (value n (now (tree .entry)) r ≡ at (now (tree .entry)) 1) ⌝ }
+{
+    let mut i: usize = 1;
+    while i < n {
+        i = 2 * i;
+        if tree[i + 1] < tree[i] {
+            i = i + 1;
+        }
+    }
+    i - n
+}

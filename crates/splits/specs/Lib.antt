@@ -1,4 +1,0 @@
--- The split points of a segment, in flat arrays, sorted by distance from its start.
-pub mod Buffer
-pub mod Sorted
-pub mod Next

@@ -1,0 +1,2 @@
+-- The walk's parts joined.
+pub mod Walk

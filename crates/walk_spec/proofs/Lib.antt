@@ -1,0 +1,10 @@
+-- Laws of the definitions in specs/.
+pub mod Circuit
+pub mod Examples
+pub mod Free
+pub mod Next
+pub mod Orient
+pub mod Start
+pub mod Traced
+pub mod Trail
+pub mod VirtualStep

@@ -1,0 +1,4 @@
+-- Laws of the definitions in specs/.
+pub mod Chosen
+pub mod Listed
+pub mod Source

@@ -1,0 +1,2 @@
+-- Where the walk starts.
+pub mod Better

@@ -1,0 +1,209 @@
+//! Times the published planner and the proved one on the same drawings, in one process.
+
+use crate::{counts, library_hypot, machine_root, next_drawing, port, Lent};
+use std::hint::black_box;
+
+#[repr(C)]
+struct Clock {
+    seconds: i64,
+    nanoseconds: i64,
+}
+
+unsafe extern "C" {
+    fn clock_gettime(clock: i32, now: *mut Clock) -> i32;
+}
+
+/// Processor time of this thread in nanoseconds, which other work on the machine moves less than the time of day.
+fn now() -> f64 {
+    let mut clock = Clock { seconds: 0, nanoseconds: 0 };
+    // 3 is CLOCK_THREAD_CPUTIME_ID.
+    let failed = unsafe { clock_gettime(3, &mut clock) };
+    assert!(failed == 0, "no clock");
+    clock.seconds as f64 * 1e9 + clock.nanoseconds as f64
+}
+
+const ROUNDS: usize = 9;
+/// What a round takes at least, unless a single call takes longer.
+const ROUND: f64 = 4e6;
+
+/// Nanoseconds a call of each, the least of several rounds in which they take turns.
+fn times(calls: &mut [Box<dyn FnMut() + '_>]) -> Vec<f64> {
+    let spent = |call: &mut dyn FnMut(), count: usize| {
+        let start = now();
+        for _ in 0..count {
+            call();
+        }
+        now() - start
+    };
+    let counts: Vec<usize> = calls
+        .iter_mut()
+        .map(|call| {
+            let mut count = 1;
+            while spent(call, count) < ROUND / 2.0 {
+                count *= 2;
+            }
+            count
+        })
+        .collect();
+    let mut least = vec![f64::INFINITY; calls.len()];
+    for round in 0..ROUNDS {
+        for (i, call) in calls.iter_mut().enumerate() {
+            // Calls that take a good part of a second are made a few times only.
+            if round < 3 || least[i] < 25.0 * ROUND {
+                least[i] = least[i].min(spent(call, counts[i]) / counts[i] as f64);
+            }
+        }
+    }
+    least
+}
+
+pub fn run(what: &str) {
+    match what {
+        "--bench" => whole(),
+        "--phases" => phases(),
+        _ => stack(),
+    }
+}
+
+/// One line for each drawing: sizes of its graph, then nanoseconds: the port, the published planner with the C
+/// library's `hypot`, and with the machine's root.
+fn whole() {
+    while let Some((lent, file)) = next_drawing() {
+        let mut memory = Memory::new(lent);
+        let found = times(&mut [
+            Box::new(|| drop(black_box(memory.plan(black_box(&file))))),
+            Box::new(|| drop(black_box(library_hypot::plan(black_box(&file), lent)))),
+            Box::new(|| drop(black_box(machine_root::plan(black_box(&file), lent)))),
+        ]);
+        println!("{} | {}", counts(&file, lent), words(&found));
+    }
+}
+
+/// One line for each drawing: nanoseconds of each phase of the published planner, with the C library's `hypot`, then
+/// with the machine's root; then of the port if its phases are linked in.
+fn phases() {
+    while let Some((lent, file)) = next_drawing() {
+        let mut memory = Memory::new(lent);
+        let rust = [library_hypot::phase_ends, machine_root::phase_ends].map(|ends| least_phases(|| ends(black_box(&file), now)));
+        let port = times(&mut port_phases(&file, &mut memory));
+        // The port's go from the start.
+        let port: Vec<f64> = port.iter().scan(0.0, |before, &end| Some(end - std::mem::replace(before, end))).collect();
+        println!("{} | {} | {} | {}", counts(&file, lent), words(&rust[0]), words(&rust[1]), words(&port));
+    }
+}
+
+/// The least time of each phase, what reading the clock takes left out.
+fn least_phases(ends: impl Fn() -> Vec<f64>) -> Vec<f64> {
+    let clock = (0..1000).map(|_| -(now() - now())).fold(f64::INFINITY, f64::min);
+    let mut least: Vec<f64> = Vec::new();
+    let (start, mut runs) = (now(), 0);
+    while runs < 3 || now() - start < ROUNDS as f64 * ROUND {
+        runs += 1;
+        for (i, pair) in ends().windows(2).enumerate() {
+            let spent = (pair[1] - pair[0] - clock).max(0.0);
+            if i < least.len() {
+                least[i] = least[i].min(spent);
+            } else {
+                least.push(spent);
+            }
+        }
+    }
+    // The retraces search once more, on graphs that grow by copies.
+    if least.len() > 5 {
+        least[5] = (least[5] - least[4]).max(0.0);
+    }
+    least
+}
+
+/// What a call of the port is lent.
+struct Memory {
+    floats: Vec<f64>,
+    bytes: Vec<u8>,
+    output: Vec<u8>,
+}
+
+impl Memory {
+    fn new(lent: Lent) -> Self {
+        Memory { floats: vec![1.0; lent.f64_entries], bytes: vec![1; lent.byte_entries], output: vec![1; lent.output_bytes] }
+    }
+
+    fn plan(&mut self, file: &[u8]) -> port::Outcome {
+        port::planned(file, &mut self.floats, &mut self.bytes, &mut self.output)
+    }
+}
+
+#[cfg(not(phases))]
+fn port_phases<'a>(_: &'a [u8], _: &'a mut Memory) -> Vec<Box<dyn FnMut() + 'a>> {
+    Vec::new()
+}
+
+#[cfg(phases)]
+unsafe extern "C" {
+    // Each goes from the start to the end of its phase and gives a number that depends on all it made. `searches` makes
+    // the search for each pair on the graph as it was drawn, and lays no copy.
+    fn phase_read(file: *const u8, file_len: usize) -> u64;
+    fn phase_graph(file: *const u8, file_len: usize) -> u64;
+    fn phase_odd(file: *const u8, file_len: usize) -> u64;
+    fn phase_pairs(
+        file: *const u8, file_len: usize, floats: *mut f64, floats_len: usize, bytes: *mut u8, bytes_len: usize,
+    ) -> u64;
+    fn phase_searches(
+        file: *const u8, file_len: usize, floats: *mut f64, floats_len: usize, bytes: *mut u8, bytes_len: usize,
+    ) -> u64;
+    fn phase_repair(
+        file: *const u8, file_len: usize, floats: *mut f64, floats_len: usize, bytes: *mut u8, bytes_len: usize,
+    ) -> u64;
+}
+
+#[cfg(phases)]
+fn port_phases<'a>(file: &'a [u8], memory: &'a mut Memory) -> Vec<Box<dyn FnMut() + 'a>> {
+    let (floats, floats_len) = (memory.floats.as_mut_ptr(), memory.floats.len());
+    let (bytes, bytes_len) = (memory.bytes.as_mut_ptr(), memory.bytes.len());
+    let mut calls: Vec<Box<dyn FnMut() + 'a>> = Vec::new();
+    // The pointers and lengths are those of the file and of the memory that is lent, and the calls are made in turn.
+    for phase in [phase_read, phase_graph, phase_odd] {
+        calls.push(Box::new(move || {
+            black_box(unsafe { phase(black_box(file).as_ptr(), file.len()) });
+        }));
+    }
+    for phase in [phase_pairs, phase_searches, phase_repair] {
+        calls.push(Box::new(move || {
+            black_box(unsafe { phase(black_box(file).as_ptr(), file.len(), floats, floats_len, bytes, bytes_len) });
+        }));
+    }
+    calls.push(Box::new(move || drop(black_box(memory.plan(black_box(file))))));
+    calls
+}
+
+fn words(numbers: &[f64]) -> String {
+    numbers.iter().map(|n| format!("{n:.0}")).collect::<Vec<_>>().join(" ")
+}
+
+const PAINT: u64 = 0xA5C3_96E1_5A3C_691E;
+const PAINTED: usize = 3 << 20;
+
+/// One line for each drawing: the bytes of stack that a call of the port reaches down to.
+fn stack() {
+    let work = || {
+        while let Some((lent, file)) = next_drawing() {
+            let mut memory = Memory::new(lent);
+            println!("{} | {}", counts(&file, lent), deepest(&mut memory, &file));
+        }
+    };
+    std::thread::Builder::new().stack_size(8 << 20).spawn(work).expect("a thread").join().expect("its end");
+}
+
+#[inline(never)]
+fn deepest(memory: &mut Memory, file: &[u8]) -> usize {
+    let top: *mut u64;
+    unsafe {
+        std::arch::asm!("mov {}, rsp", out(reg) top);
+        let room = PAINTED / 8;
+        // Some words below the stack pointer may be in use; all below them is painted, then looked at from below.
+        for i in 32..room {
+            top.sub(i).write_volatile(PAINT);
+        }
+        drop(black_box(memory.plan(black_box(file))));
+        (32..room).rev().find(|&i| top.sub(i).read_volatile() != PAINT).map_or(0, |i| 8 * i)
+    }
+}

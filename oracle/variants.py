@@ -1,0 +1,264 @@
+#!/usr/bin/env python3
+"""Shows that the list of answers tells the oracle from versions of it that are nearly right.
+
+usage: oracle/variants.py SOURCE OUT [--only TEXT] [--generated SEED COUNT]
+
+SOURCE is the published source, as oracle/build takes it; OUT a folder to write to. Builds the oracle, makes each edit
+of VERSIONS in its text, and runs the version that results on oracle/answers.txt (or on COUNT generated drawings of
+each kind). Prints how many answers differ and the first of them; fails if a version gives every answer of the list.
+"""
+import argparse
+import pathlib
+import random
+import re
+import shutil
+import subprocess
+import sys
+
+import answers
+import drawing as d
+from generate import KINDS
+
+HERE = pathlib.Path(__file__).resolve().parent
+
+# Blocks of reader.rs and rust_plan.rs that versions exchange or move.
+KINDS_CHECKED = """    if !kinds_in_order || !kinds_known || settings_count != 1 {
+        return Err(3);
+    }
+"""
+LENGTHS_CHECKED = """    if !records.iter().all(right_length) {
+        return Err(4);
+    }
+"""
+SETTINGS_CHECKED = """    if width > 8192 || height > 8192 || pairing > 1 || flags > 3 {
+        return Err(5);
+    }
+"""
+COUNTS_CHECKED = """    if line_bodies.len() > 256 || points_in_all > 1024 || link_bodies.len() > 255 {
+        return Err(6);
+    }
+"""
+GRID_CHECKED = """    if !lines.iter().flatten().copied().chain(ends).all(|(x, y)| on_grid(x) && on_grid(y)) {
+        return Err(7);
+    }
+"""
+LINKS_CHECKED = """    if !links.iter().all(|l| names_segment(l.line_a, l.segment_a) && names_segment(l.line_b, l.segment_b)) {
+        return Err(8);
+    }
+"""
+ALL_REACHED = """    if !all_reached_from_first(&graph) {
+        return Err(9);
+    }
+"""
+MANY_ODD = """        if n > DP_THRESHOLD {
+            return Err(10);
+        }
+"""
+SHORT_TABLES = """        if n >= 4 && (lent.f64_entries < (1 << n) + n * n || lent.byte_entries < 1 << n) {
+            return Err(11);
+        }
+"""
+BY_VIRTUAL = "circuit.iter().position(|&(_, by)| by == Some(v))"
+BY_ENDS = """|&(_, by)| by.is_some_and(|e| {
+    let ((a, b), (c, d)) = (graph.edge_endpoints(e).unwrap(), graph.edge_endpoints(v).unwrap());
+    (a, b) == (c, d) || (a, b) == (d, c)
+})"""
+CUT = "[&nodes[after..], &nodes[1..after]].concat()"
+
+
+def tolerance(by):
+    return "fn shortest_path(", ("< 1e-10", by)
+
+
+def limit(old, new):
+    return "reader.rs", (old, new)
+
+
+def side(name, by):
+    return "fn image_center(", (f"f64::from(dims.{name}) / 2.0", by)
+
+
+# Where each edit is made, one of our files or an item of the published text by its first words, and pairs of old and new
+# text. An old text stands once in the file; in an item every place is changed.
+VERSIONS = {
+    "check 1: 65,535 bytes at most": limit("> 65_536", "> 65_535"),
+    "check 1: 65,537 bytes at most": limit("> 65_536", "> 65_537"),
+    "check 5: width 8,191 at most": limit("width > 8192", "width > 8191"),
+    "check 5: width 8,193 at most": limit("width > 8192", "width > 8193"),
+    "check 5: height 8,191 at most": limit("height > 8192", "height > 8191"),
+    "check 5: height 8,193 at most": limit("height > 8192", "height > 8193"),
+    "check 5: pairing 2": limit("pairing > 1", "pairing > 2"),
+    "check 5: flags 4": limit("flags > 3", "flags > 4"),
+    "check 6: 255 lines at most": limit("line_bodies.len() > 256", "line_bodies.len() > 255"),
+    "check 6: 257 lines at most": limit("line_bodies.len() > 256", "line_bodies.len() > 257"),
+    "check 6: 255 lines with points at most": limit(
+        "line_bodies.len() > 256", "line_bodies.len() > 256 || line_bodies.iter().filter(|b| !b.is_empty()).count() > 255"),
+    "check 6: empty lines not counted": limit(
+        "line_bodies.len() > 256", "line_bodies.iter().filter(|b| !b.is_empty()).count() > 256"),
+    "check 6: lines with points not counted": limit(
+        "line_bodies.len() > 256", "line_bodies.iter().filter(|b| b.is_empty()).count() > 256"),
+    "check 6: 1,023 points at most": limit("points_in_all > 1024", "points_in_all > 1023"),
+    "check 6: 1,025 points at most": limit("points_in_all > 1024", "points_in_all > 1025"),
+    "check 6: 1,024 points in each line": limit("points_in_all > 1024", "line_bodies.iter().any(|b| b.len() / 16 > 1024)"),
+    "check 6: points of links counted": limit("points_in_all > 1024", "points_in_all + 2 * link_bodies.len() > 1024"),
+    "check 6: 254 links at most": limit("link_bodies.len() > 255", "link_bodies.len() > 254"),
+    "check 6: 256 links at most": limit("link_bodies.len() > 255", "link_bodies.len() > 256"),
+    "check 8: an empty line may be named": limit("!l.is_empty() && ", ""),
+    "check 8: the segment behind the last": limit("l.len().saturating_sub(2)", "l.len().saturating_sub(1)"),
+    "2 before 1": ("reader.rs", ("""    if file.len() > 65_536 {
+        return Err(1);
+    }
+""", ""), ("    let kinds_in_order", "    if file.len() > 65_536 {\n        return Err(1);\n    }\n    let kinds_in_order")),
+    # The records before the one that is cut, judged by check 3.
+    "3 before 2": ("reader.rs", ("    let mut rest = file;", "    let mut rest = file;\n    let mut cut = false;"),
+                   ("        if rest.len() < 6 {\n            return Err(2);", "        if rest.len() < 6 {\n            cut = true;\n            break;"),
+                   ("        if length > rest.len() {\n            return Err(2);",
+                    "        if length > rest.len() {\n            records.push(Record { kind, body: rest });\n            cut = true;\n            break;"),
+                   (KINDS_CHECKED, KINDS_CHECKED + "    if cut {\n        return Err(2);\n    }\n")),
+    "4 before 3": ("reader.rs", (KINDS_CHECKED, ""), (LENGTHS_CHECKED, LENGTHS_CHECKED + KINDS_CHECKED)),
+    "4 before 3, other kinds having no length": (
+        "reader.rs", (KINDS_CHECKED, ""), (LENGTHS_CHECKED, LENGTHS_CHECKED + KINDS_CHECKED),
+        ("        _ => r.body.len() == 40,", "        3 => r.body.len() == 40,\n        _ => true,")),
+    # Settings too short to be read are left to check 4.
+    "5 before 4": ("reader.rs", (LENGTHS_CHECKED, "    if records[0].body.len() < 10 {\n        return Err(4);\n    }\n"),
+                   (SETTINGS_CHECKED, SETTINGS_CHECKED + LENGTHS_CHECKED)),
+    "6 before 5": ("reader.rs", (SETTINGS_CHECKED, ""), (COUNTS_CHECKED, COUNTS_CHECKED + SETTINGS_CHECKED)),
+    "7 before 6": ("reader.rs", (COUNTS_CHECKED, ""), (GRID_CHECKED, GRID_CHECKED + COUNTS_CHECKED)),
+    "8 before 7": ("reader.rs", (GRID_CHECKED, ""), (LINKS_CHECKED, LINKS_CHECKED + GRID_CHECKED)),
+    "10 before 9": ("rust_plan.rs", (ALL_REACHED, ""), (MANY_ODD, MANY_ODD + ALL_REACHED),
+                    ("    let (retrace, odd_before", ALL_REACHED + "    let (retrace, odd_before")),
+    "11 before 10": ("rust_plan.rs", (MANY_ODD, ""), (SHORT_TABLES, SHORT_TABLES + MANY_ODD)),
+    "check 10: from 20 odd nodes on": ("rust_plan.rs", ("n > DP_THRESHOLD", "n >= DP_THRESHOLD")),
+    "check 10: from 23 odd nodes on": ("rust_plan.rs", ("n > DP_THRESHOLD", "n > 22")),
+    "check 11: 2^n + 4 n entries": ("rust_plan.rs", ("n * n", "4 * n")),
+    "check 11: 2^n + n^2 - 1 entries": ("rust_plan.rs", ("n * n", "n * n - 1")),
+    "check 11: 2^n - 1 bytes": ("rust_plan.rs", ("lent.byte_entries < 1 << n", "lent.byte_entries + 1 < 1 << n")),
+    "check 11: tables for 2 odd nodes": ("rust_plan.rs", ("n >= 4 &&", "n >= 2 &&")),
+    "check 11: tables for no odd node": ("rust_plan.rs", ("n >= 4 &&", "")),
+    "check 11: no tables for 4 odd nodes": ("rust_plan.rs", ("n >= 4 &&", "n > 4 &&")),
+    "check 13: 3,999 edges at most": ("rust_plan.rs", ("MOST_EDGES: usize = 4000", "MOST_EDGES: usize = 3999")),
+    "check 13: 4,001 edges at most": ("rust_plan.rs", ("MOST_EDGES: usize = 4000", "MOST_EDGES: usize = 4001")),
+    "check 14: a byte more": ("rust_plan.rs", ("lent.output_bytes < 6", "lent.output_bytes <= 6")),
+    "check 14: a byte less": ("rust_plan.rs", ("lent.output_bytes < 6", "lent.output_bytes + 1 < 6")),
+    "tolerance: equality": tolerance("== 0.0"),
+    "tolerance: 1e-20": tolerance("< 1e-20"),
+    "tolerance: 1e-11": tolerance("< 1e-11"),
+    "tolerance: 1 / 11^10": tolerance("< 1.0 / 25_937_424_601.0"),
+    "tolerance: 0.98e-10": tolerance("< 0.98e-10"),
+    "tolerance: 1.02e-10": tolerance("< 1.02e-10"),
+    "tolerance: 1e-9": tolerance("< 1e-9"),
+    "centre: width rounded down": side("width", "f64::from(dims.width / 2)"),
+    "centre: height rounded down": side("height", "f64::from(dims.height / 2)"),
+    "centre: width rounded up": side("width", "f64::from(dims.width.div_ceil(2))"),
+    "centre: height rounded up": side("height", "f64::from(dims.height.div_ceil(2))"),
+    "centre: width and height exchanged": ("fn image_center(", ("dims.width", "dims.side"), ("dims.height", "dims.width"), ("dims.side", "dims.height")),
+    "splits: sorted along the segment": ("fn build_graph(", *[(
+        f"({p}.x - seg_start.x).nearest_hypot({p}.y - seg_start.y)",
+        f"(({p}.x - seg_start.x) * (seg_end.x - seg_start.x) + ({p}.y - seg_start.y) * (seg_end.y - seg_start.y))") for p in "ab"]),
+    "splits: not stable": ("fn build_graph(", ("ordered_splits.sort_by(", "ordered_splits.reverse();\n ordered_splits.sort_by(")),
+    "splits: each point once": ("fn build_graph(", (
+        "let mut prev = seg_start;",
+        "let mut seen = Vec::new();\n ordered_splits.retain(|p| !seen.contains(p) && { seen.push(*p); true });\n let mut prev = seg_start;")),
+    "greedy: the last of the nearest": ("fn greedy_euclidean_matching(", ("d < best_dist", "d <= best_dist")),
+    "greedy: remove for swap_remove": ("fn greedy_euclidean_matching(", (".swap_remove(", ".remove(")),
+    # Where the higher place is the last of the list, the lower one can't go first by its number.
+    "greedy: the lower place removed first": (
+        "fn greedy_euclidean_matching(", ("if best_i > best_j", "if best_j + 1 < remaining.len()")),
+    "optimal: the last of the best": ("fn dp_bitmask_matching(", ("cost < dp[mask]", "cost <= dp[mask]")),
+    "optimal: the last of the two left out": ("fn dp_bitmask_matching(", ("dp[to_match] < best_cost", "dp[to_match] <= best_cost")),
+    "optimal: distances transposed": ("fn dp_bitmask_matching(", ("dist_matrix[i][j]", "dist_matrix[j][i]")),
+    "optimal: distances in whole pixels": ("fn dp_bitmask_matching(", ("dist_matrix[i][j]", "dist_matrix[i][j].round()")),
+    "retraces: a sum for each": ("fn fix_parity(", (
+        "apply_matching(graph, &pairs)?", "{\n let mut all = 0.0;\n for &pair in &pairs {\n all += apply_matching(graph, &[pair])?;\n }\n all\n }")),
+    "retraces: one running sum, the closing one included": ("fn fix_parity(", (
+        "total_retrace += apply_matching(graph, &[(remaining[0], remaining[1])])?;",
+        "for step in shortest_path(graph, remaining[0], remaining[1])?.windows(2) {\n"
+        "total_retrace += graph.edges(step[0]).find(|e| e.target() == step[1]).map_or(0.0, |e| *e.weight());\n }\n"
+        "apply_matching(graph, &[(remaining[0], remaining[1])])?;")),
+    "edges: oldest first": ("petgraph.rs", (
+        "let first = self.as_first[n.0].iter().rev();", "let first = self.as_first[n.0].iter();"), (
+        "let second = self.as_second[n.0].iter().rev();", "let second = self.as_second[n.0].iter();")),
+    "edges: second ends first": ("petgraph.rs", ("first.chain(second)", "second.chain(first)")),
+    "walk: the virtual edge from the higher to the lower": ("fn hierholzer(", ("(pair[0], pair[1], 0.0)", "(pair[1], pair[0], 0.0)")),
+    "start: the last of the best": ("fn hierholzer(", ("dist > best_dist", "dist >= best_dist"), ("dist < best_dist", "dist <= best_dist")),
+    "orient: turned round on a tie": (
+        "fn orient_path(", ("last_dist > first_dist", "last_dist >= first_dist"), ("last_dist < first_dist", "last_dist <= first_dist")),
+    "orient: never turned round": ("fn orient_path(", ("if should_reverse", "if false && should_reverse")),
+    "cut: the first step between the virtual edge's ends": ("departure.rs", (BY_VIRTUAL, f"circuit.iter().position({BY_ENDS})")),
+    "cut: the last step between the virtual edge's ends": ("departure.rs", (BY_VIRTUAL, f"circuit.iter().rposition({BY_ENDS})")),
+    "cut: the circuit's start twice": ("departure.rs", (CUT, "[&nodes[after..], &nodes[..after]].concat()")),
+    "hypot: the C library's": ("hypot.rs", ("nearest_root((a * a + b * b) as u64) / 1024.0", "{ let _ = (a, b); self.hypot(other) }")),
+    "flags: 3 does not close": ("reader.rs", ("flags & 1 != 0", "flags % 3 == 1")),
+    "flags: 3 is not Inside": ("reader.rs", ("flags & 2 != 0", "flags == 2")),
+}
+
+
+def edited(folder, where, pairs):
+    """The file that an edit changes, and its text with the edit made."""
+    file = where if where.endswith(".rs") else "published.rs"
+    text = (folder / file).read_text()
+    start, end = 0, len(text)
+    if file == "published.rs":
+        start = re.search("^(pub\\S* )?" + re.escape(where), text, re.MULTILINE).start()
+        end = text.index("\n}\n", start)
+    part = text[start:end]
+    for old, new in pairs:
+        if part.count(old) == 0 or file != "published.rs" and part.count(old) > 1:
+            sys.exit(f"{where}: this text stands there {part.count(old)} times:\n{old}")
+        part = part.replace(old, new)
+    return file, text[:start] + part + text[end:]
+
+
+def planned(program, batch):
+    """The answers; fewer than there are drawings if the version stops on one."""
+    run = subprocess.run([program, "--batch", "--line"], input=batch, capture_output=True)
+    return run.stdout.decode().splitlines()
+
+
+def main():
+    parser = argparse.ArgumentParser()
+    parser.add_argument("source", type=pathlib.Path)
+    parser.add_argument("out", type=pathlib.Path)
+    parser.add_argument("--only", default="")
+    parser.add_argument("--generated", nargs=2, metavar=("SEED", "COUNT"))
+    args = parser.parse_args()
+
+    subprocess.run([sys.executable, HERE / "build", args.source, args.out], check=True)
+    if args.generated:
+        seed, count = args.generated
+        cases = []
+        for kind in KINDS:
+            rng = random.Random(f"{kind} {seed}")
+            cases += [(f"{kind} {i}", d.batched(file, **lent)) for i in range(int(count)) for file, lent in [KINDS[kind](rng)]]
+    else:
+        cases = [(case.name, d.batched(case.file, *case.lent)) for case in answers.cases(HERE / "answers.txt")]
+    batch = b"".join(drawing for _, drawing in cases)
+    right = planned(args.out / "oracle", batch)
+    assert len(right) == len(cases)
+
+    missed = tried = 0
+    version = args.out / "version"
+    for name, (where, *pairs) in VERSIONS.items():
+        if args.only not in name:
+            continue
+        tried += 1
+        shutil.rmtree(version, ignore_errors=True)
+        version.mkdir()
+        for source in args.out.glob("*.rs"):
+            shutil.copy(source, version)
+        file, text = edited(args.out, where, pairs)
+        (version / file).write_text(text)
+        subprocess.run(["rustc", "-O", "--edition", "2024", "-A", "warnings", "-o", version / "oracle", version / "main.rs"],
+                       check=True)
+        got = planned(version / "oracle", batch)
+        if len(got) < len(right):
+            # It stopped on a drawing; those behind it are not looked at.
+            got.append("stopped")
+        different = [case for (case, _), a, b in zip(cases, right, got) if a != b]
+        missed += not different
+        print(f"{name}: " + (f"{len(different)} differ, first '{different[0]}'" if different else "NOT TOLD APART"), flush=True)
+    print(f"{tried - missed} of {tried} versions told apart by {len(cases)} drawings")
+    sys.exit(missed > 0)
+
+
+main()
