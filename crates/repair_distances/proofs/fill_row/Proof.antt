@@ -41,9 +41,11 @@ returns c =
     let r = c .before .before .before .before .before .before in
     let f = r .before .before .before .before in
     let w = f .before .before .before .before in
-    let b = w .before .before .before in
-    (row-is _ (b .args .m) (adjacency (b .args .ends .now) (b .args .weights .now) (b .args .next .now) (b .args .heads .now)) _ _ _ (w .wide .result) (r .before .before .before .row-of .result) _ _ _ (b .pre .1 .0) (b .pre .1 .1 .1) (b .pre .1 .1 .0)
-    (w .wide .ensures) (r .before .before .before .row-of .ensures .0) (f .search-from .ensures .0) (r .copy-row .ensures), c .clear .ensures)
+    let b = w .before .before .before in (
+      row-is _ (b .args .m) (adjacency (b .args .ends .now) (b .args .weights .now) (b .args .next .now) (b .args .heads .now)) _ _ _ (w .wide .result) (r .before .before .before .row-of .result) _ _ _ (b .pre .1 .0) (b .pre .1 .1 .1) (b .pre .1 .1 .0)
+          (w .wide .ensures) (r .before .before .before .row-of .ensures .0) (f .search-from .ensures .0) (r .copy-row .ensures),
+      c .clear .ensures,
+    )
 
 pub fill-row-spec : {M : Type 1} → statement M
 fill-row-spec =
