@@ -105,6 +105,23 @@ fn distance_of(dist: &[f64; MOST_NODES], goal: usize) -> f64
     repair_tournament::infinity()
 }
 
+// The node that was listed last; s where none is.
+fn last_listed(
+    dist: &[f64; MOST_NODES],
+    touched: &[u16; MOST_NODES],
+    n: usize,
+    count: usize,
+    s: usize,
+) -> usize
+    requires { ⌜ (s < n) × (length (now dist) ≡ mostNodes) × Listed n (now dist) (now touched) count ⌝ }
+    ensures { λ r. ⌜ r < n ⌝ }
+{
+    if count == 0 {
+        return s;
+    }
+    widen::wide(touched[count - 1])
+}
+
 // The least distances from s to each of n nodes, up to that of the goal: one that is lower than the goal's or
 // equal to it is the least, and no node with a higher one is nearer than the goal. With a goal that is no
 // node, as MOST_NODES, all are least. The answer is how many nodes were reached, which are listed in `touched`.
@@ -137,7 +154,8 @@ pub fn search_from(
         if !(d < limit) {
             break;
         }
-        let u = repair_tournament::least(tree, n);
+        let last = last_listed(dist, touched, n, count, s);
+        let u = repair_tournament::least_at(tree, n, last);
         count = relax(
             ends,
             weights,
