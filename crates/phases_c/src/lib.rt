@@ -26,8 +26,11 @@ use repair_pairs::Pairs;
 
 // The phases that a call may stop after; any other number is repair.
 const READ: u32 = 0;
+
 const GRAPH: u32 = 1;
+
 const ODD: u32 = 2;
+
 const PAIRS: u32 = 3;
 
 // The number of a refusal and zeros; or 0 with two counts and a length of what the last phase made.
@@ -198,9 +201,33 @@ fn phase_of_graph(
         return end_of_odd(ends, weights, next, heads, n, m);
     }
     if last == PAIRS {
-        return end_of_pairs(xs, ys, ends, weights, next, heads, n, m, settings, floats, bytes);
+        return end_of_pairs(
+            xs,
+            ys,
+            ends,
+            weights,
+            next,
+            heads,
+            n,
+            m,
+            settings,
+            floats,
+            bytes,
+        );
     }
-    end_of_repair(xs, ys, ends, weights, next, heads, n, m, settings, floats, bytes)
+    end_of_repair(
+        xs,
+        ys,
+        ends,
+        weights,
+        next,
+        heads,
+        n,
+        m,
+        settings,
+        floats,
+        bytes,
+    )
 }
 
 // Of a drawing: the number of its lines and of its links, or what a later phase made of its graph.
