@@ -175,22 +175,54 @@ def print_whole(oracle, rows, most=None):
           f" {ratio(by_library[-3], by_library[-2])}; to the machine's root {by_machine[0]}, {ratio(by_machine[-3], by_machine[-1])}.")
 
 
-# The searches are those of a graph without copies, so that the retraces take what the copies add to them too. The
-# port's times are differences of calls that go from the start, and its last phase also writes the record.
+# The published planner's searches are those of a graph without copies, so that its retraces take what the copies add to
+# them too; the port's are timed with its retraces. The port's times are differences of calls that go from the start. Its
+# pairs hold the clearing of the tables that are lent, and its last phase also writes the record.
 PHASES = ["read", "build_graph", "check 9, odd nodes", "pairs", "searches", "retraces", "walk to line"]
+PORT = [*PHASES[:4], "searches and retraces", PHASES[6]]
+REPAIR = slice(3, 5)
+
+
+def as_port(times):
+    """The published planner's phases as the port has them."""
+    return [*times[:4], *([sum(times[4:6])] if len(times) > 5 else []), *times[6:]]
+
+
+def print_row(name, cells, columns):
+    """A refused drawing has fewer phases."""
+    print("|", " | ".join([name, *cells, *[""] * (len(columns) - len(cells))]), "|")
 
 
 def print_phases(oracle, rows):
     found = run(oracle, "--phases", rows)
-    for at, title in enumerate(("Rust, C library's hypot", "Rust, machine's root", "port"), 1):
+    names = [name for name, *_ in rows]
+    head("drawing", "nodes / edges / odd / repaired edges / points")
+    for name, row in zip(names, found):
+        print_row(name, [sizes(row[0])], [""])
+    print()
+    titles = "Rust, C library's hypot", "Rust, machine's root", "port"
+    for at, (title, columns) in enumerate(zip(titles, (PHASES, PHASES, PORT)), 1):
         if not found[0][at]:
-            continue
-        head(f"{title} (µs)", *PHASES)
-        for (name, *_), row in zip(rows, found):
-            # A refused drawing has fewer phases. A difference that is less than what comes before it strays is not shown.
-            cells = [micro(t) if title != "port" or t > sum(row[at][:k]) / 50 else "-" for k, t in enumerate(row[at])]
-            print("|", " | ".join([name, *cells, *[""] * (len(PHASES) - len(cells))]), "|")
+            return
+        head(f"{title} (µs)", *columns)
+        for name, row in zip(names, found):
+            print_row(name, [micro(t) if title != "port" or seen(row[at], k) else "-" for k, t in enumerate(row[at])], columns)
         print()
+    for at, title in enumerate(titles[:2], 1):
+        columns = [*PORT, "fix_parity"]
+        head(f"port by {title}", *columns)
+        for name, row in zip(names, found):
+            rust, port = as_port(row[at]), row[3]
+            cells = [ratio(p, r) if seen(port, k) and r else "-" for k, (p, r) in enumerate(zip(port, rust))]
+            # Of a refused drawing, repair is the last phase.
+            cells += [""] * (len(PORT) - len(cells))
+            print_row(name, [*cells, ratio(sum(port[REPAIR]), sum(rust[REPAIR])) if len(rust) > 4 else ""], columns)
+        print()
+
+
+def seen(port, k):
+    """Whether the difference is more than what comes before it strays."""
+    return port[k] > sum(port[:k]) / 50
 
 
 def print_stack(oracle, rows):
