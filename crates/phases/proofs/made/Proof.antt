@@ -1,8 +1,8 @@
--- `phases_c::made` meets its contract. Assumes nothing.
+-- `phases::made` meets its contract. Assumes nothing.
 use mathlib.Core.Path.{refl}
 use borrow.Author.Needs.{needs}
-use Rattle.phases_c.proofs.made.Statement.{statement}
-use Rattle.phases_c.proofs.made.Tie as tie
+use Rattle.phases.proofs.made.Statement.{statement}
+use Rattle.phases.proofs.made.Tie as tie
 
 returns : tie.Need-returns
 unfolding lib.Ieee.ofBits

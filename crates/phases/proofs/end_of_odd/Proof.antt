@@ -1,4 +1,4 @@
--- `phases_c::end_of_odd` meets its contract. Assumes nothing.
+-- `phases::end_of_odd` meets its contract. Assumes nothing.
 use mathlib.Core.Path.{_∙_}
 use mathlib.Core.List.{List}
 use Prim.Native.Nat.{ℕ}
@@ -7,9 +7,9 @@ use borrow.Author.Needs.{needs}
 use Rattle.graph_adjacency.specs.Lists.{Adjacency, adjacency}
 use Rattle.graph_arrays.specs.Arrays.{edgesIn}
 use Rattle.graph_odd.proofs.Listed.{odd-few}
-use Rattle.phases_c.proofs.Phases.{odd-none, odd-some}
-use Rattle.phases_c.proofs.end_of_odd.Statement.{statement}
-use Rattle.phases_c.proofs.end_of_odd.Tie as tie
+use Rattle.phases.proofs.Ends.{odd-none, odd-some}
+use Rattle.phases.proofs.end_of_odd.Statement.{statement}
+use Rattle.phases.proofs.end_of_odd.Tie as tie
 
 abbrev entry : tie.Start → Adjacency
 entry b = adjacency (b .args .ends .now) (b .args .weights .now) (b .args .next .now) (b .args .heads .now)

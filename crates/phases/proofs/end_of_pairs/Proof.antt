@@ -1,4 +1,4 @@
--- `phases_c::end_of_pairs` meets its contract. Assumes nothing.
+-- `phases::end_of_pairs` meets its contract. Assumes nothing.
 use mathlib.Core.Path.{_∙_}
 use mathlib.Core.List.{List}
 use Prim.Native.Nat.{ℕ}
@@ -8,9 +8,9 @@ use Rattle.file_records.specs.Meaning.{settingsOf}
 use Rattle.graph_adjacency.specs.Lists.{Adjacency, adjacency}
 use Rattle.graph_arrays.specs.Arrays.{graphIn}
 use Rattle.repair.proofs.ParityLaws.{pairs-room}
-use Rattle.phases_c.proofs.Phases.{pairs-refused, pairs-found}
-use Rattle.phases_c.proofs.end_of_pairs.Statement.{statement}
-use Rattle.phases_c.proofs.end_of_pairs.Tie as tie
+use Rattle.phases.proofs.Ends.{pairs-refused, pairs-found}
+use Rattle.phases.proofs.end_of_pairs.Statement.{statement}
+use Rattle.phases.proofs.end_of_pairs.Tie as tie
 
 abbrev entry : tie.Start → Adjacency
 entry b = adjacency (b .args .ends .now) (b .args .weights .now) (b .args .next .now) (b .args .heads .now)

@@ -1,8 +1,8 @@
--- `phases_c::refused` meets its contract. Assumes nothing.
+-- `phases::refused` meets its contract. Assumes nothing.
 use mathlib.Core.Path.{refl}
 use borrow.Author.Needs.{needs}
-use Rattle.phases_c.proofs.refused.Statement.{statement}
-use Rattle.phases_c.proofs.refused.Tie as tie
+use Rattle.phases.proofs.refused.Statement.{statement}
+use Rattle.phases.proofs.refused.Tie as tie
 
 returns : tie.Need-returns
 unfolding lib.Ieee.ofBits
