@@ -88,9 +88,9 @@ module _ (n : ℕ) (xs ys line : List ℕ) (count : ℕ) (points : List Point) (
       let node : getD (take count line) (count - 1) 0 ≡ v = getD-take count line (count - 1) 0 (omega (arith, h)) ∙ sym e in
       let long : count - 1 < length (take count line) = omega (arith, h, length-take-le count line (l .long)) in
       let at : pointAt points (count - 1) ≡ pointIn xs ys v =
-          ap (λ (ps : List Point). pointAt ps (count - 1)) (sym is) ∙ getD-map-in (pointAt (nodesIn n xs ys)) (take count line) (count - 1) 0 noPoint long ∙ ap (pointAt (nodesIn n xs ys)) node ∙ point-at n xs ys v below in
+      ap (λ (ps : List Point). pointAt ps (count - 1)) (sym is) ∙ getD-map-in (pointAt (nodesIn n xs ys)) (take count line) (count - 1) 0 noPoint long ∙ ap (pointAt (nodesIn n xs ys)) node ∙ point-at n xs ys v below in
       let same : x ≡ pointAt points (length points - 1) .x =
-          f ∙ ap (λ (p : Point). p .x) (sym at) ∙ ap (λ (k : ℕ). pointAt points (k - 1) .x) (sym points-count) in
+      f ∙ ap (λ (p : Point). p .x) (sym at) ∙ ap (λ (k : ℕ). pointAt points (k - 1) .x) (sym points-count) in
       λ i. made (sym points-count i) (same i) retrace
 
 module _ (g : Graph) (s : drawn.Settings) (floats bytes last : ℕ) (r : Repair) (a : Adjacency) (is : parityIn r a ≡ parityFor mostEdges refusedEdges g s floats bytes) where

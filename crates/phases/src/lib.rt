@@ -24,9 +24,13 @@ use repair_pairs::Pairs;
 
 // The phases that a call may stop after; any other number is the last phase, the line.
 pub const READ: u32 = 0;
+
 pub const GRAPH: u32 = 1;
+
 pub const ODD: u32 = 2;
+
 pub const PAIRS: u32 = 3;
+
 pub const REPAIR: u32 = 4;
 
 // The number of a refusal and zeros; or 0 with two counts and a length of what the last phase made.

@@ -1,92 +1,35 @@
 -- Laws of specs/Phases: each way out of the code is one case of the definition.
-use mathlib.Core.Path.{_≡_, refl, sym, ap, subst, _∙_}
-use mathlib.Core.List.{List, [], _∷_}
+use mathlib.Core.Path.{_≡_, refl, sym, ap, _∙_}
+use mathlib.Core.List.{List}
 use mathlib.Core.Bool.{Bool, true, false}
-use Prim.Native.Nat.{ℕ, zero, suc, _-_, _<_, _≤_}
+use Prim.Native.Nat.{ℕ, zero, suc}
 use native.Mathlib.Omega.{arith}
-use lib.ListN.{length, getD}
+use lib.ListN.{length}
 use lib.Dec.{eqb}
-use lib.Ieee.{Float}
 use borrow.Author.Tests.{eq-eqb, ne-eqb}
-use Rattle.limits.specs.Limits.{mostEdges, refusedApart, refusedEdges}
+use Rattle.limits.specs.Limits.{refusedApart}
 use Rattle.drawing_spec.specs.Drawing as drawn
 use Rattle.drawing_spec.specs.Refusal as refusal
 use Rattle.drawing_spec.specs.Read.{readConditions}
-use Rattle.graph_spec.specs.Graph.{Edge, Graph, buildGraph}
-use Rattle.graph_spec.specs.Odd.{oddNodes}
+use Rattle.graph_spec.specs.Graph.{Graph, buildGraph}
 use Rattle.graph_spec.specs.Reach.{allReached}
 use Rattle.graph_adjacency.specs.Lists.{Adjacency}
-use Rattle.graph_arrays.specs.Arrays.{pointIn, edgeIn, nodesIn, edgesIn, graphIn, Front}
+use Rattle.graph_arrays.specs.Arrays.{pointIn, edgeIn, nodesIn, edgesIn, graphIn}
 use Rattle.graph_arrays.proofs.Tabulate.{tabulate-length}
-use Rattle.graph_arrays.proofs.NodeList.{front-at}
 use Rattle.graph.specs.Built.{Built}
-use Rattle.graph.specs.Sound.{Sound}
-use Rattle.graph.proofs.Sound.{accepted-sound}
 use Rattle.file_records.specs.Meaning.{settingsOf}
+use Rattle.file_records.specs.declared.MstEdge.{MstEdge}
 use Rattle.file_drawing.specs.declared.Drawing.{Drawing}
 use Rattle.file_drawing.specs.Back.{linesBack, linksBack, drawingFrom}
-use Rattle.file_records.specs.declared.MstEdge.{MstEdge}
 use Rattle.file.specs.declared.Reading.{Reading}
 use Rattle.file.specs.declared.Verdict.the-variants.{Accepted, Refused}
 use Rattle.file.specs.Reading.{verdictFrom, readingOf}
 use Rattle.file.proofs.ReadingLaws.{accepted-drawing}
 use Rattle.repair_spec.specs.Distance.{zeroLength}
-use Rattle.repair_spec.specs.PairsIn.{pairsIn}
-use Rattle.repair_spec.proofs.PairsIn.{pairs-count}
-use Rattle.repair_pairs.specs.Pairs.{pairsFor}
-use Rattle.repair_pairs.specs.Meaning.{foundIn}
-use Rattle.repair_pairs.specs.declared.Pairs.{Pairs}
-use Rattle.repair_pairs.specs.declared.Pairs.the-variants as pairing
-use Rattle.repair.specs.Parity.{parityFor}
-use Rattle.repair.specs.Meaning.{caseIn, parityIn}
-use Rattle.repair.specs.declared.Parity.{Parity}
-use Rattle.repair.specs.declared.Parity.the-variants as fixed
-use Rattle.repair.specs.declared.Repair.{Repair}
 use Rattle.planner_spec.specs.Plan.{drawingIn}
-use Rattle.phases_c.specs.declared.Phase.{Phase}
-use Rattle.phases_c.specs.Phases.{refusedWith, made, oddEnd, foundEnd, pairsEnd, valueEnd, repairEnd, reachedPhase, graphPhase, drawingPhase, phaseOf}
-
--- ---- the end of each phase
-
-module _ (n : ℕ) (es : List Edge) (listed : List ℕ) (count : ℕ) (F : Front (oddNodes n es) listed count) where
-  pub odd-none : count ≡ 0 → made 0 0 zeroLength ≡ oddEnd n es
-  unfolding oddEnd
-  odd-none h = go (oddNodes n es) (omega (arith, F .counts, h))
-    where
-      go : (vs : List ℕ) → length vs ≡ 0 → made 0 0 zeroLength ≡ made (length vs) (getD vs (length vs - 1) 0) zeroLength
-      go [] e = refl
-      go (v ∷ vs) e = absurd (omega arith)
-
-  pub odd-some : 0 < count → (v : ℕ) → v ≡ getD listed (count - 1) 0 → made count v zeroLength ≡ oddEnd n es
-  unfolding oddEnd
-  odd-some h v e =
-      let at : v ≡ getD (oddNodes n es) (length (oddNodes n es) - 1) 0 =
-      e ∙ front-at (oddNodes n es) listed count F (count - 1) (omega (arith, h)) ∙ ap (λ (k : ℕ). getD (oddNodes n es) (k - 1) 0) (F .counts) in
-      λ i. made (F .counts i) (at i) zeroLength
-
-module _ (g : Graph) (s : drawn.Settings) (floats bytes : ℕ) (r : Pairs) (fs ss : List ℕ) (is : foundIn r fs ss ≡ pairsFor g s floats bytes) where
-  found-ends : foundEnd (foundIn r fs ss) ≡ pairsEnd g s floats bytes
-  unfolding pairsEnd
-  found-ends = ap foundEnd is
-
-  pub pairs-refused : (k : ℕ) → r ≡ pairing.Refused k → refusedWith k ≡ pairsEnd g s floats bytes
-  pairs-refused k e = ap (λ (q : Pairs). foundEnd (foundIn q fs ss)) (sym e) ∙ found-ends
-
-  pub pairs-found : (odd count : ℕ) → r ≡ pairing.Found odd count → made odd count zeroLength ≡ pairsEnd g s floats bytes
-  pairs-found odd count e =
-      ap (λ (k : ℕ). made odd k zeroLength) (sym (pairs-count fs ss 0 count)) ∙ ap (λ (q : Pairs). foundEnd (foundIn q fs ss)) (sym e) ∙ found-ends
-
-module _ (g : Graph) (s : drawn.Settings) (floats bytes : ℕ) (r : Repair) (a : Adjacency) (is : parityIn r a ≡ parityFor mostEdges refusedEdges g s floats bytes) where
-  value-ends : valueEnd (parityIn r a) ≡ repairEnd g s floats bytes
-  unfolding repairEnd
-  value-ends = ap valueEnd is
-
-  pub repair-refused : (k : ℕ) → r .parity ≡ fixed.Refused k → refusedWith k ≡ repairEnd g s floats bytes
-  repair-refused k e = ap (λ (p : Parity). valueEnd (caseIn p (r .edges) a)) (sym e) ∙ value-ends
-
-  pub repair-done : (x : Float) (before after : ℕ) → r .parity ≡ fixed.Repaired x before after → made after (r .edges) x ≡ repairEnd g s floats bytes
-  repair-done x before after e =
-      ap (λ (k : ℕ). made after k x) (sym (tabulate-length (edgeIn a) (r .edges) 0)) ∙ ap (λ (p : Parity). valueEnd (caseIn p (r .edges) a)) (sym e) ∙ value-ends
+use Rattle.phases.specs.declared.Phase.{Phase}
+use Rattle.phases.specs.Ends.{refusedWith, made, oddEnd, pairsEnd, repairEnd}
+use Rattle.phases_c.specs.Phases.{reachedPhase, graphPhase, drawingPhase, phaseOf}
 
 -- ---- which phase is the last
 
@@ -104,7 +47,7 @@ module _ (n m : ℕ) (xs ys : List ℕ) (a : Adjacency) (s : drawn.Settings) (fl
   reachedBy b c =
       elim b as (λ t. Phase) [
         | true ↦ oddEnd (length (g .nodes)) (g .edges)
-        | false ↦ elim c as (λ t. Phase) [ true ↦ pairsEnd g s floats bytes | false ↦ repairEnd g s floats bytes ]
+        | false ↦ elim c as (λ t. Phase) [ true ↦ pairsEnd g s floats bytes | false ↦ repairEnd g s floats bytes last ]
       ]
 
   reached-by : (b c : Bool) → eqb last 2 ≡ b → eqb last 3 ≡ c → reachedPhase g s floats bytes last ≡ reachedBy b c
@@ -140,7 +83,7 @@ module _ (n m : ℕ) (xs ys : List ℕ) (a : Adjacency) (s : drawn.Settings) (fl
       pub pairs-stop : (last ≡ 2 → ⊥) → last ≡ 3 → (p : Phase) → p ≡ pairsEnd g s floats bytes → p ≡ graphPhase g s floats bytes last
       pairs-stop z e p is = is ∙ sym (on-reached false true (ne-eqb last 2 z) (eq-eqb last 3 e))
 
-      pub repair-stops : (last ≡ 2 → ⊥) → (last ≡ 3 → ⊥) → (p : Phase) → p ≡ repairEnd g s floats bytes → p ≡ graphPhase g s floats bytes last
+      pub repair-stops : (last ≡ 2 → ⊥) → (last ≡ 3 → ⊥) → (p : Phase) → p ≡ repairEnd g s floats bytes last → p ≡ graphPhase g s floats bytes last
       repair-stops z e p is = is ∙ sym (on-reached false false (ne-eqb last 2 z) (ne-eqb last 3 e))
 
 -- ---- of a drawing
@@ -200,9 +143,6 @@ module _ (file : List ℕ) (floats bytes last : ℕ) (r : Reading) (is : r ≡ r
   module _ (h : r .verdict ≡ Accepted) where
     read-accepted : readingOf file .verdict ≡ Accepted
     read-accepted = ap (λ (x : Reading). x .verdict) (sym is) ∙ h
-
-    pub sound : Sound (r .drawing)
-    sound = subst (λ (x : Reading). Sound (x .drawing)) (sym is) (accepted-sound file read-accepted)
 
     pub drawing-follows : (p : Phase) → p ≡ drawingPhase (drawingFrom (r .drawing)) floats bytes last → p ≡ phaseOf file floats bytes last
     unfolding drawingIn

@@ -68,7 +68,7 @@ fn phase_of_graph(
             bytes,
         );
     }
-    end_of_repair(
+    phases::end_of_repair(
         xs,
         ys,
         ends,
@@ -80,6 +80,7 @@ fn phase_of_graph(
         settings,
         floats,
         bytes,
+        last,
     )
 }
 

@@ -2,7 +2,8 @@
 use mathlib.Core.Path.{_∙_}
 use lib.ListN.{length}
 use borrow.Author.Needs.{needs}
-use Rattle.phases_c.proofs.Phases.{refused-stops, sound, drawing-follows}
+use Rattle.planner.proofs.Drawn.{drawable}
+use Rattle.phases_c.proofs.Phases.{refused-stops, drawing-follows}
 use Rattle.phases_c.proofs.phase_of_bytes.Statement.{statement}
 use Rattle.phases_c.proofs.phase_of_bytes.Tie as tie
 
@@ -22,7 +23,7 @@ phase-of-drawing-requires : tie.Need-phase-of-drawing-requires
 phase-of-drawing-requires c κs =
     let r = c .before .before .before .before .before in
     let b = r .before .before .before .before in
-    sound (b .args .file .now) (length (b .args .floats .now)) (length (b .args .bytes .now)) (b .args .last) (r .read .result) (r .read .ensures) (c .before .before .before .enum-told .given .1)
+    drawable (b .args .file .now) (r .read .result) (r .read .ensures) (c .before .before .before .enum-told .given .1)
 
 returns : tie.Need-returns
 returns c =

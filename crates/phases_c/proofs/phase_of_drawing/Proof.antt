@@ -3,6 +3,7 @@ use mathlib.Core.Path.{refl, _∙_}
 use lib.ListN.{length}
 use borrow.Author.Needs.{needs}
 use Rattle.graph_adjacency.specs.Lists.{Adjacency, adjacency}
+use Rattle.planner.proofs.Drawn.{plannable}
 use Rattle.phases_c.proofs.Phases.{read-stops, graph-follows}
 use Rattle.phases_c.proofs.phase_of_drawing.Statement.{statement}
 use Rattle.phases_c.proofs.phase_of_drawing.Tie as tie
@@ -18,10 +19,13 @@ returns c = let b = c .before .before .before .before in c .made .ensures ∙ re
 
 build-graph-requires : tie.Need-build-graph-requires
 unfolding lib.Ieee.ofBits
-build-graph-requires c κs = (refl, (refl, c .before .before .before .before .before .before .before .before .before .before .before .before .pre))
+build-graph-requires c κs = (refl, (refl, c .before .before .before .before .before .before .before .before .before .before .before .before .pre .sound))
 
 phase-of-graph-requires : tie.Need-phase-of-graph-requires
-phase-of-graph-requires c κs = search needs
+phase-of-graph-requires c κs =
+    let g = c .before .before .before .before .before .before .before .before in
+    let b = g .before .before .before .before .before .before .before .before .before .before .before .before .before in
+    plannable (b .args .drawing) (b .pre) (g .build-graph .result .nodes) (g .build-graph .result .edges) (g .build-graph .last .0) (g .build-graph .last .1 .0) (edges g) (g .build-graph .ensures)
 
 same-length : tie.Need-same-length
 same-length c = search needs
