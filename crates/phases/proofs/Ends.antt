@@ -2,12 +2,12 @@
 use mathlib.Core.Path.{_≡_, refl, sym, ap, subst, _∙_}
 use mathlib.Core.List.{List, [], _∷_, map}
 use mathlib.Core.Bool.{Bool, true, false}
-use Prim.Native.Nat.{ℕ, zero, suc, _-_, _<_, _≤_}
+use Prim.Native.Nat.{ℕ, zero, suc, _+_, _-_, _<_, _≤_}
 use native.Mathlib.Omega.{arith}
 use lib.ListN.{length, getD, take, length-map}
 use lib.Seq.{getD-take, length-take-le}
 use lib.Dec.{eqb}
-use lib.Ieee.{Float}
+use lib.Ieee.{Float, binary64, add}
 use borrow.Author.Tests.{eq-eqb, ne-eqb}
 use Rattle.limits.specs.Limits.{mostEdges, refusedEdges, lineRoom}
 use Rattle.drawing_spec.specs.Drawing as drawn
@@ -15,17 +15,19 @@ use Rattle.drawing_spec.specs.Drawing.{Point}
 use Rattle.graph_spec.specs.Graph.{Edge, Graph, noPoint, pointAt}
 use Rattle.graph_spec.specs.Odd.{oddNodes}
 use Rattle.graph_adjacency.specs.Lists.{Adjacency}
-use Rattle.graph_arrays.specs.Arrays.{pointIn, edgeIn, nodesIn, edgesIn, EdgesHeld, Front}
+use Rattle.graph_arrays.specs.Arrays.{pointIn, edgeIn, nodesIn, edgesIn, graphIn, EdgesHeld, Front}
 use Rattle.graph_arrays.specs.NodeList.{NodeList, pointsAlong}
 use Rattle.graph_arrays.proofs.Tabulate.{tabulate-length}
 use Rattle.graph_arrays.proofs.NodeList.{front-at, point-at}
-use Rattle.repair_spec.specs.Distance.{zeroLength}
+use Rattle.repair_spec.specs.Distance.{zeroLength, distanceAt, distances}
 use Rattle.repair_spec.specs.PairsIn.{pairsIn}
 use Rattle.repair_spec.proofs.PairsIn.{pairs-count}
 use Rattle.repair_pairs.specs.Pairs.{pairsFor}
 use Rattle.repair_pairs.specs.Meaning.{foundIn}
 use Rattle.repair_pairs.specs.declared.Pairs.{Pairs}
 use Rattle.repair_pairs.specs.declared.Pairs.the-variants as pairing
+use Rattle.repair_pairs.proofs.Usable.{Usable}
+use Rattle.repair.proofs.ParityLaws.{found-some, found-usable}
 use Rattle.repair.specs.Parity.{parityFor}
 use Rattle.repair.specs.Meaning.{caseIn, caseHeld, parityIn, HeldWith}
 use Rattle.repair.specs.declared.Parity.{Parity}
@@ -33,7 +35,7 @@ use Rattle.repair.specs.declared.Parity.the-variants as fixed
 use Rattle.repair.specs.declared.Repair.{Repair}
 use Rattle.walk_spec.specs.Line.{lineOf}
 use Rattle.phases.specs.declared.Phase.{Phase}
-use Rattle.phases.specs.Ends.{refusedWith, made, oddEnd, foundEnd, pairsEnd, lineMade, valueEnd, repairEnd}
+use Rattle.phases.specs.Ends.{refusedWith, made, oddEnd, searched, foundEnd, pairsEnd, lineMade, valueEnd, repairEnd}
 
 -- an element of a mapped list, whatever stands past the ends
 getD-map-in : {A B : Type 0} (f : A → B) (xs : List A) (i : ℕ) (d : A) (e : B) → i < length xs → getD (map f xs) i e ≡ f (getD xs i d)
@@ -59,17 +61,63 @@ module _ (n : ℕ) (es : List Edge) (listed : List ℕ) (count : ℕ) (F : Front
       e ∙ front-at (oddNodes n es) listed count F (count - 1) (omega (arith, h)) ∙ ap (λ (k : ℕ). getD (oddNodes n es) (k - 1) 0) (F .counts) in
       λ i. made (F .counts i) (at i) zeroLength
 
-module _ (g : Graph) (s : drawn.Settings) (floats bytes : ℕ) (r : Pairs) (fs ss : List ℕ) (is : foundIn r fs ss ≡ pairsFor g s floats bytes) where
-  found-ends : foundEnd (foundIn r fs ss) ≡ pairsEnd g s floats bytes
+module _ (n m : ℕ) (xs ys : List ℕ) (a : Adjacency) (s : drawn.Settings) (floats bytes last : ℕ) (r : Pairs) (fs ss : List ℕ) (is : foundIn r fs ss ≡ pairsFor (graphIn n m xs ys a) s floats bytes) where
+  abbrev g : Graph
+  g = graphIn n m xs ys a
+
+  found-by : (b : Bool) → eqb last 3 ≡ b → foundEnd g b (foundIn r fs ss) ≡ pairsEnd g s floats bytes last
   unfolding pairsEnd
-  found-ends = ap foundEnd is
+  found-by b e = ap (λ (t : Bool). foundEnd g t (foundIn r fs ss)) (sym e) ∙ ap (foundEnd g (eqb last 3)) is
 
-  pub pairs-refused : (k : ℕ) → r ≡ pairing.Refused k → refusedWith k ≡ pairsEnd g s floats bytes
-  pairs-refused k e = ap (λ (q : Pairs). foundEnd (foundIn q fs ss)) (sym e) ∙ found-ends
+  pub pairs-refused : (k : ℕ) → r ≡ pairing.Refused k → refusedWith k ≡ pairsEnd g s floats bytes last
+  pairs-refused k e = ap (λ (q : Pairs). foundEnd g (eqb last 3) (foundIn q fs ss)) (sym e) ∙ found-by (eqb last 3) refl
 
-  pub pairs-found : (odd count : ℕ) → r ≡ pairing.Found odd count → made odd count zeroLength ≡ pairsEnd g s floats bytes
-  pairs-found odd count e =
-      ap (λ (k : ℕ). made odd k zeroLength) (sym (pairs-count fs ss 0 count)) ∙ ap (λ (q : Pairs). foundEnd (foundIn q fs ss)) (sym e) ∙ found-ends
+  module _ (odd count : ℕ) (e : r ≡ pairing.Found odd count) where
+    pub pairs-found : last ≡ 3 → made odd count zeroLength ≡ pairsEnd g s floats bytes last
+    pairs-found h =
+        ap (λ (k : ℕ). made odd k zeroLength) (sym (pairs-count fs ss 0 count)) ∙ ap (λ (q : Pairs). foundEnd g true (foundIn q fs ss)) (sym e) ∙ found-by true (eq-eqb last 3 h)
+
+    pub pairs-searched : (last ≡ 3 → ⊥) → (x : Float) → x ≡ searched n (edgesIn m a) (pairsIn fs ss 0 count) zeroLength → made odd count x ≡ pairsEnd g s floats bytes last
+    pairs-searched z x sum =
+        let same : x ≡ searched (length (nodesIn n xs ys)) (edgesIn m a) (pairsIn fs ss 0 count) zeroLength =
+        sum ∙ ap (λ (k : ℕ). searched k (edgesIn m a) (pairsIn fs ss 0 count) zeroLength) (sym (tabulate-length (pointIn xs ys) n 0)) in
+        (λ i. made odd (sym (pairs-count fs ss 0 count) i) (same i)) ∙ ap (λ (q : Pairs). foundEnd g false (foundIn q fs ss)) (sym e) ∙ found-by false (ne-eqb last 3 z)
+
+    pub usable : EdgesHeld n m a → Usable n count fs ss
+    usable E = found-usable 0 0 n m xs ys a E s floats bytes odd count fs ss (found-some r fs ss (pairsFor g s floats bytes) is odd count e)
+
+-- ---- one search after the other
+
+-- what is left, from the pair i on, gives the whole sum
+pub record Searching (n : ℕ) (es : List Edge) (fs ss : List ℕ) (pairs : ℕ) (whole : Float) (i : ℕ) (sum : Float) : Type 0 where
+  pub up-to : i ≤ pairs
+  pub same : searched n es (pairsIn fs ss i (pairs - i)) sum ≡ whole
+
+pub searching-begin : (n : ℕ) (es : List Edge) (fs ss : List ℕ) (pairs : ℕ) → Searching n es fs ss pairs (searched n es (pairsIn fs ss 0 pairs) zeroLength) 0 zeroLength
+searching-begin n es fs ss pairs =
+    let all : pairs - 0 ≡ pairs = omega arith in
+    record { up-to = omega arith; same = ap (λ (k : ℕ). searched n es (pairsIn fs ss 0 k) zeroLength) all }
+
+module _ (n : ℕ) (es : List Edge) (fs ss : List ℕ) (pairs : ℕ) (whole : Float) (i : ℕ) (sum : Float) (S : Searching n es fs ss pairs whole i sum) where
+  pub searching-step : i < pairs → (u v : ℕ) → u ≡ getD fs i 0 → v ≡ getD ss i 0 → (x : Float) → x ≡ add binary64 sum (distanceAt (distances n es u) v) → Searching n es fs ss pairs whole (i + 1) x
+  unfolding searched pairsIn
+  searching-step h u v eu ev x ex =
+      let left : pairs - i ≡ suc (pairs - (i + 1)) = omega (arith, h) in
+      let one : i + 1 ≡ suc i = omega arith in
+      let nodes : distanceAt (distances n es u) v ≡ distanceAt (distances n es (getD fs i 0)) (getD ss i 0) =
+      ap (λ (w : ℕ). distanceAt (distances n es w) v) eu ∙ ap (λ (w : ℕ). distanceAt (distances n es (getD fs i 0)) w) ev in
+      record {
+        up-to = omega (arith, h);
+        same =
+            ap (λ (k : ℕ). searched n es (pairsIn fs ss k (pairs - (i + 1))) x) one
+            ∙ ap (λ (y : Float). searched n es (pairsIn fs ss (suc i) (pairs - (i + 1))) y) (ex ∙ ap (add binary64 sum) nodes)
+            ∙ ap (λ (k : ℕ). searched n es (pairsIn fs ss i k) sum) (sym left)
+            ∙ S .same;
+      }
+
+  pub searching-end : pairs ≤ i → sum ≡ whole
+  unfolding searched pairsIn
+  searching-end h = let none : pairs - i ≡ 0 = omega (arith, h) in ap (λ (k : ℕ). searched n es (pairsIn fs ss i k) sum) (sym none) ∙ S .same
 
 module _ (n : ℕ) (xs ys line : List ℕ) (count : ℕ) (points : List Point) (l : NodeList n lineRoom line count) (is : pointsAlong n xs ys line count ≡ points) (retrace : Float) where
   points-count : length points ≡ count
@@ -94,21 +142,21 @@ module _ (n : ℕ) (xs ys line : List ℕ) (count : ℕ) (points : List Point) (
       λ i. made (sym points-count i) (same i) retrace
 
 module _ (g : Graph) (s : drawn.Settings) (floats bytes last : ℕ) (r : Repair) (a : Adjacency) (is : parityIn r a ≡ parityFor mostEdges refusedEdges g s floats bytes) where
-  by-last : (b : Bool) → eqb last 4 ≡ b → valueEnd g s b (parityIn r a) ≡ repairEnd g s floats bytes last
+  by-last : (b : Bool) → eqb last 5 ≡ b → valueEnd g s b (parityIn r a) ≡ repairEnd g s floats bytes last
   unfolding repairEnd
-  by-last b e = ap (λ (t : Bool). valueEnd g s t (parityIn r a)) (sym e) ∙ ap (valueEnd g s (eqb last 4)) is
+  by-last b e = ap (λ (t : Bool). valueEnd g s t (parityIn r a)) (sym e) ∙ ap (valueEnd g s (eqb last 5)) is
 
   pub repair-refused : (k : ℕ) → r .parity ≡ fixed.Refused k → refusedWith k ≡ repairEnd g s floats bytes last
-  repair-refused k e = ap (λ (p : Parity). valueEnd g s (eqb last 4) (caseIn p (r .edges) a)) (sym e) ∙ by-last (eqb last 4) refl
+  repair-refused k e = ap (λ (p : Parity). valueEnd g s (eqb last 5) (caseIn p (r .edges) a)) (sym e) ∙ by-last (eqb last 5) refl
 
   module _ (x : Float) (before after : ℕ) (e : r .parity ≡ fixed.Repaired x before after) where
-    pub repair-done : last ≡ 4 → made after (r .edges) x ≡ repairEnd g s floats bytes last
+    pub repair-done : last ≡ 5 → made after (r .edges) x ≡ repairEnd g s floats bytes last
     repair-done h =
         ap (λ (k : ℕ). made after k x) (sym (tabulate-length (edgeIn a) (r .edges) 0)) ∙ ap (λ (p : Parity). valueEnd g s true (caseIn p (r .edges) a)) (sym e)
-        ∙ by-last true (eq-eqb last 4 h)
+        ∙ by-last true (eq-eqb last 5 h)
 
-    pub line-done : (last ≡ 4 → ⊥) → (p : Phase) → p ≡ lineMade (lineOf s (g .nodes) (edgesIn (r .edges) a)) x → p ≡ repairEnd g s floats bytes last
-    line-done z p is-line = is-line ∙ ap (λ (q : Parity). valueEnd g s false (caseIn q (r .edges) a)) (sym e) ∙ by-last false (ne-eqb last 4 z)
+    pub line-done : (last ≡ 5 → ⊥) → (p : Phase) → p ≡ lineMade (lineOf s (g .nodes) (edgesIn (r .edges) a)) x → p ≡ repairEnd g s floats bytes last
+    line-done z p is-line = is-line ∙ ap (λ (q : Parity). valueEnd g s false (caseIn q (r .edges) a)) (sym e) ∙ by-last false (ne-eqb last 5 z)
 
     pub held : (n : ℕ) → HeldWith n r a → EdgesHeld n (r .edges) a
     held n H = subst (λ (p : Parity). caseHeld n p (r .edges) a) e H

@@ -1,16 +1,19 @@
 // What each phase of the planner makes of a graph that stands in arrays, for timing (crates/phases_c): told by two counts
 // and a length, so that no phase's work can be left out.
 ghost use mathlib.Core.Path.{_≡_};
-ghost use Prim.Native.Nat.{_≤_};
-ghost use lib.ListN.{length};
-ghost use Rattle.limits.specs.Limits.{mostSide};
+ghost use Prim.Native.Nat.{ℕ, _<_, _≤_};
+ghost use lib.ListN.{length, getD};
+ghost use lib.Ieee.{binary64, add};
+ghost use Rattle.limits.specs.Limits.{mostSide, mostPairs};
 ghost use Rattle.file_records.specs.Meaning.{settingsOf};
 ghost use Rattle.graph_adjacency.specs.Lists.{adjacency};
 ghost use Rattle.graph_arrays.specs.Arrays.{nodesIn, edgesIn, graphIn, NodesHeld, EdgesHeld, EdgesLinked};
-ghost use Rattle.repair_spec.specs.Distance.{zeroLength};
+ghost use Rattle.repair_spec.specs.Distance.{zeroLength, distanceAt, distances};
+ghost use Rattle.repair_spec.specs.PairsIn.{pairsIn};
+ghost use Rattle.repair_search.specs.Touched.{Unreached};
 ghost use Rattle.walk_spec.specs.Line.{lineOf};
 ghost use Rattle.planner_graph.specs.Answer.{Plannable};
-ghost use Rattle.phases.specs.Ends.{refusedWith, made, oddEnd, pairsEnd, lineMade, repairEnd};
+ghost use Rattle.phases.specs.Ends.{refusedWith, made, oddEnd, searched, pairsEnd, lineMade, repairEnd};
 use file_records::Settings;
 use limits::ARC_ROOM;
 use limits::EDGE_ROOM;
@@ -31,7 +34,9 @@ pub const ODD: u32 = 2;
 
 pub const PAIRS: u32 = 3;
 
-pub const REPAIR: u32 = 4;
+pub const SEARCHES: u32 = 4;
+
+pub const REPAIR: u32 = 5;
 
 // The number of a refusal and zeros; or 0 with two counts and a length of what the last phase made.
 #[repr(C)]
@@ -85,7 +90,90 @@ pub fn end_of_odd(
     made(odd, last)
 }
 
-// The number of odd nodes, and of pairs.
+// The least distance from one node to another, added to `sum`. The search is made in lent arrays, which are then as they
+// were.
+fn add_distance(
+    ends: &[u16; ARC_ROOM],
+    weights: &[f64; EDGE_ROOM],
+    next: &[u16; ARC_ROOM],
+    heads: &[u16; 2 * MOST_NODES],
+    n: usize,
+    m: usize,
+    dist: &mut [f64; MOST_NODES],
+    tree: &mut [f64; 2 * MOST_NODES],
+    touched: &mut [u16; MOST_NODES],
+    from: usize,
+    to: usize,
+    sum: f64,
+) -> f64
+    requires { ⌜ (from < n) × (to < n) × Unreached n (now dist) (now tree) (now touched) ⌝ }
+    requires { ⌜ EdgesHeld n m (adjacency (now ends) (now weights) (now next) (now heads)) ⌝ }
+    ensures added { λ r. ⌜ r ≡ add binary64 sum (distanceAt (distances n (edgesIn m (adjacency (now (ends .entry)) (now (weights .entry)) (now (next .entry)) (now (heads .entry)))) from) to) ⌝ }
+    ensures kept { λ _. ⌜ Unreached n (now (dist .exit)) (now (tree .exit)) (now (touched .exit)) ⌝ }
+{
+    let count = repair_search::search_from(
+        ends,
+        weights,
+        next,
+        heads,
+        n,
+        m,
+        dist,
+        tree,
+        touched,
+        from,
+        to,
+    );
+    let found = dist[to];
+    repair_search::clear(dist, tree, touched, n, count);
+    sum + found
+}
+
+// The least distances between the nodes of each pair, added up in order.
+fn search_pairs(
+    ends: &[u16; ARC_ROOM],
+    weights: &[f64; EDGE_ROOM],
+    next: &[u16; ARC_ROOM],
+    heads: &[u16; 2 * MOST_NODES],
+    n: usize,
+    m: usize,
+    firsts: &[u16; MOST_PAIRS],
+    seconds: &[u16; MOST_PAIRS],
+    pairs: usize,
+) -> f64
+    requires { ⌜ (pairs ≤ mostPairs) × ((j : ℕ) → j < pairs → (getD (now firsts) j 0 < n) × (getD (now seconds) j 0 < n)) ⌝ }
+    requires { ⌜ EdgesHeld n m (adjacency (now ends) (now weights) (now next) (now heads)) ⌝ }
+    ensures { λ r. ⌜ r ≡ searched n (edgesIn m (adjacency (now (ends .entry)) (now (weights .entry)) (now (next .entry)) (now (heads .entry)))) (pairsIn (now (firsts .entry)) (now (seconds .entry)) 0 pairs) zeroLength ⌝ }
+{
+    let infinity = repair_tournament::infinity();
+    let mut dist = [infinity; MOST_NODES];
+    let mut tree = [infinity; 2 * MOST_NODES];
+    let mut touched = [0; MOST_NODES];
+    let mut sum = 0.0;
+    let mut i: usize = 0;
+    while i < pairs {
+        let from = widen::wide(firsts[i]);
+        let to = widen::wide(seconds[i]);
+        sum = add_distance(
+            ends,
+            weights,
+            next,
+            heads,
+            n,
+            m,
+            &mut dist,
+            &mut tree,
+            &mut touched,
+            from,
+            to,
+            sum,
+        );
+        i += 1;
+    }
+    sum
+}
+
+// The number of odd nodes and of pairs; or, past the pairs, the sum of their least distances too.
 pub fn end_of_pairs(
     xs: &[u32; MOST_NODES],
     ys: &[u32; MOST_NODES],
@@ -98,10 +186,11 @@ pub fn end_of_pairs(
     settings: Settings,
     floats: &mut [f64],
     bytes: &mut [u8],
+    last: u32,
 ) -> Phase
     requires nodes { ⌜ NodesHeld n (now xs) (now ys) ⌝ }
     requires edges { ⌜ EdgesHeld n m (adjacency (now ends) (now weights) (now next) (now heads)) ⌝ }
-    ensures { λ r. ⌜ r ≡ pairsEnd (graphIn n m (now (xs .entry)) (now (ys .entry)) (adjacency (now (ends .entry)) (now (weights .entry)) (now (next .entry)) (now (heads .entry)))) (settingsOf settings) (length (now (floats .entry))) (length (now (bytes .entry))) ⌝ }
+    ensures { λ r. ⌜ r ≡ pairsEnd (graphIn n m (now (xs .entry)) (now (ys .entry)) (adjacency (now (ends .entry)) (now (weights .entry)) (now (next .entry)) (now (heads .entry)))) (settingsOf settings) (length (now (floats .entry))) (length (now (bytes .entry))) last ⌝ }
 {
     let mut firsts = [0u16; MOST_PAIRS];
     let mut seconds = [0u16; MOST_PAIRS];
@@ -122,7 +211,18 @@ pub fn end_of_pairs(
     );
     match pairs {
         Pairs::Refused(number) => refused(number),
-        Pairs::Found(odd, count) => made(odd, count),
+        Pairs::Found(odd, count) => {
+            if last == PAIRS {
+                return made(odd, count);
+            }
+            let total = search_pairs(ends, weights, next, heads, n, m, &firsts, &seconds, count);
+            Phase {
+                refusal: 0,
+                first: odd,
+                second: count,
+                total,
+            }
+        }
     }
 }
 

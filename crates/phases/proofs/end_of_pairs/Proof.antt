@@ -6,9 +6,8 @@ use lib.ListN.{length}
 use borrow.Author.Needs.{needs}
 use Rattle.file_records.specs.Meaning.{settingsOf}
 use Rattle.graph_adjacency.specs.Lists.{Adjacency, adjacency}
-use Rattle.graph_arrays.specs.Arrays.{graphIn}
 use Rattle.repair.proofs.ParityLaws.{pairs-room}
-use Rattle.phases.proofs.Ends.{pairs-refused, pairs-found}
+use Rattle.phases.proofs.Ends.{pairs-refused, pairs-found, pairs-searched, usable}
 use Rattle.phases.proofs.end_of_pairs.Statement.{statement}
 use Rattle.phases.proofs.end_of_pairs.Tie as tie
 
@@ -48,9 +47,16 @@ same-length-2 c = search needs
 
 returns : tie.Need-returns
 returns c =
-    let f = c .before .before .before .before .before .before .before .before in
+    let f = c .before .before .before .before .before .before .before .before .before in
     let b = start f in
-    c .refused .ensures ∙ pairs-refused (graphIn (b .args .n) (b .args .m) (b .args .xs .now) (b .args .ys .now) (entry b)) (settingsOf (b .args .settings)) (length (b .args .floats .now)) (length (b .args .bytes .now)) (f .find-pairs .result) (firsts f) (seconds f) (f .find-pairs .ensures) _ (c .before .before .pairs .given .1)
+    c .made .ensures ∙ pairs-found (b .args .n) (b .args .m) (b .args .xs .now) (b .args .ys .now) (entry b) (settingsOf (b .args .settings)) (length (b .args .floats .now)) (length (b .args .bytes .now)) (b .args .last) (f .find-pairs .result) (firsts f) (seconds f) (f .find-pairs .ensures) _ _ (c .before .before .before .pairs2 .given .1) (c .before .if1 .taken)
+
+search-pairs-requires : tie.Need-search-pairs-requires
+search-pairs-requires c κs =
+    let f = c .before .before .before .before .before .before .before .before .before .before in
+    let b = start f in
+    let U = usable (b .args .n) (b .args .m) (b .args .xs .now) (b .args .ys .now) (entry b) (settingsOf (b .args .settings)) (length (b .args .floats .now)) (length (b .args .bytes .now)) (b .args .last) (f .find-pairs .result) (firsts f) (seconds f) (f .find-pairs .ensures) _ _ (c .before .before .before .before .pairs2 .given .1) (b .pre .1) in
+    ((U .few, U .below), b .pre .1)
 
 same-length-3 : tie.Need-same-length-3
 same-length-3 c = search needs
@@ -62,7 +68,19 @@ returns-2 : tie.Need-returns-2
 returns-2 c =
     let f = c .before .before .before .before .before .before .before .before in
     let b = start f in
-    c .made .ensures ∙ pairs-found (graphIn (b .args .n) (b .args .m) (b .args .xs .now) (b .args .ys .now) (entry b)) (settingsOf (b .args .settings)) (length (b .args .floats .now)) (length (b .args .bytes .now)) (f .find-pairs .result) (firsts f) (seconds f) (f .find-pairs .ensures) _ _ (c .before .before .pairs2 .given .1)
+    c .refused .ensures ∙ pairs-refused (b .args .n) (b .args .m) (b .args .xs .now) (b .args .ys .now) (entry b) (settingsOf (b .args .settings)) (length (b .args .floats .now)) (length (b .args .bytes .now)) (b .args .last) (f .find-pairs .result) (firsts f) (seconds f) (f .find-pairs .ensures) _ (c .before .before .pairs .given .1)
+
+same-length-5 : tie.Need-same-length-5
+same-length-5 c = search needs
+
+same-length-6 : tie.Need-same-length-6
+same-length-6 c = search needs
+
+returns-3 : tie.Need-returns-3
+returns-3 c =
+    let f = c .before .before .before .before .before .before .before .before .before .before .before in
+    let b = start f in
+    pairs-searched (b .args .n) (b .args .m) (b .args .xs .now) (b .args .ys .now) (entry b) (settingsOf (b .args .settings)) (length (b .args .floats .now)) (length (b .args .bytes .now)) (b .args .last) (f .find-pairs .result) (firsts f) (seconds f) (f .find-pairs .ensures) _ _ (c .before .before .before .before .before .pairs2 .given .1) (c .before .before .before .if1 .left) _ (c .search-pairs .ensures)
 
 pub end-of-pairs-spec : {M : Type 1} → statement M
 end-of-pairs-spec =
@@ -76,6 +94,10 @@ end-of-pairs-spec =
     same-length
     same-length-2
     returns
+    search-pairs-requires
     same-length-3
     same-length-4
-    returns-2)
+    returns-2
+    same-length-5
+    same-length-6
+    returns-3)
