@@ -2,11 +2,11 @@
 use mathlib.Core.Path.{_≡_, refl, sym, ap, _∙_}
 use mathlib.Core.List.{List}
 use mathlib.Core.Bool.{Bool, true, false}
-use Prim.Native.Nat.{ℕ, zero, suc}
+use Prim.Native.Nat.{ℕ, zero, suc, _≤_, _<_}
 use native.Mathlib.Omega.{arith}
 use lib.ListN.{length}
-use lib.Dec.{eqb}
-use borrow.Author.Tests.{eq-eqb, ne-eqb}
+use lib.Dec.{eqb, ltb}
+use borrow.Author.Tests.{eq-eqb, ne-eqb, lt-ltb, le-ltb}
 use Rattle.limits.specs.Limits.{refusedApart}
 use Rattle.drawing_spec.specs.Drawing as drawn
 use Rattle.drawing_spec.specs.Refusal as refusal
@@ -47,12 +47,12 @@ module _ (n m : ℕ) (xs ys : List ℕ) (a : Adjacency) (s : drawn.Settings) (fl
   reachedBy b c =
       elim b as (λ t. Phase) [
         | true ↦ oddEnd (length (g .nodes)) (g .edges)
-        | false ↦ elim c as (λ t. Phase) [ true ↦ pairsEnd g s floats bytes | false ↦ repairEnd g s floats bytes last ]
+        | false ↦ elim c as (λ t. Phase) [ true ↦ pairsEnd g s floats bytes last | false ↦ repairEnd g s floats bytes last ]
       ]
 
-  reached-by : (b c : Bool) → eqb last 2 ≡ b → eqb last 3 ≡ c → reachedPhase g s floats bytes last ≡ reachedBy b c
+  reached-by : (b c : Bool) → eqb last 2 ≡ b → ltb last 5 ≡ c → reachedPhase g s floats bytes last ≡ reachedBy b c
   unfolding reachedPhase
-  reached-by b c p q = ap (λ (t : Bool). reachedBy t (eqb last 3)) p ∙ ap (reachedBy b) q
+  reached-by b c p q = ap (λ (t : Bool). reachedBy t (ltb last 5)) p ∙ ap (reachedBy b) q
 
   abbrev graphBy : Bool → Bool → Phase
   graphBy b c =
@@ -74,17 +74,17 @@ module _ (n m : ℕ) (xs ys : List ℕ) (a : Adjacency) (s : drawn.Settings) (fl
     apart-stops h = sym (graph-by false false (ne-eqb last 1 further) (sym R ∙ h))
 
     module _ (h : r ≡ true) where
-      on-reached : (b c : Bool) → eqb last 2 ≡ b → eqb last 3 ≡ c → graphPhase g s floats bytes last ≡ reachedBy b c
+      on-reached : (b c : Bool) → eqb last 2 ≡ b → ltb last 5 ≡ c → graphPhase g s floats bytes last ≡ reachedBy b c
       on-reached b c p q = graph-by false true (ne-eqb last 1 further) (sym R ∙ h) ∙ reached-by b c p q
 
       pub odd-stops : last ≡ 2 → (p : Phase) → p ≡ oddEnd n (edgesIn m a) → p ≡ graphPhase g s floats bytes last
       odd-stops e p is = is ∙ ap (λ (k : ℕ). oddEnd k (edgesIn m a)) (sym node-count) ∙ sym (on-reached true _ (eq-eqb last 2 e) refl)
 
-      pub pairs-stop : (last ≡ 2 → ⊥) → last ≡ 3 → (p : Phase) → p ≡ pairsEnd g s floats bytes → p ≡ graphPhase g s floats bytes last
-      pairs-stop z e p is = is ∙ sym (on-reached false true (ne-eqb last 2 z) (eq-eqb last 3 e))
+      pub pairs-stop : (last ≡ 2 → ⊥) → last < 5 → (p : Phase) → p ≡ pairsEnd g s floats bytes last → p ≡ graphPhase g s floats bytes last
+      pairs-stop z e p is = is ∙ sym (on-reached false true (ne-eqb last 2 z) (lt-ltb last 5 e))
 
-      pub repair-stops : (last ≡ 2 → ⊥) → (last ≡ 3 → ⊥) → (p : Phase) → p ≡ repairEnd g s floats bytes last → p ≡ graphPhase g s floats bytes last
-      repair-stops z e p is = is ∙ sym (on-reached false false (ne-eqb last 2 z) (ne-eqb last 3 e))
+      pub repair-stops : (last ≡ 2 → ⊥) → 5 ≤ last → (p : Phase) → p ≡ repairEnd g s floats bytes last → p ≡ graphPhase g s floats bytes last
+      repair-stops z e p is = is ∙ sym (on-reached false false (ne-eqb last 2 z) (le-ltb last 5 e))
 
 -- ---- of a drawing
 

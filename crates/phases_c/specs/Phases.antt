@@ -3,7 +3,7 @@ use mathlib.Core.List.{List}
 use mathlib.Core.Bool.{true, false}
 use Prim.Native.Nat.{ℕ}
 use lib.ListN.{length}
-use lib.Dec.{eqb}
+use lib.Dec.{eqb, ltb}
 use Rattle.limits.specs.Limits.{refusedApart}
 use Rattle.drawing_spec.specs.Drawing.{Settings, Drawing}
 use Rattle.drawing_spec.specs.Refusal.{refused, accepted, verdict}
@@ -21,7 +21,7 @@ unfolding oddEnd pairsEnd repairEnd
 reachedPhase g s floats bytes last =
     elim (eqb last 2) [
       | true ↦ oddEnd (length (g .nodes)) (g .edges)
-      | false ↦ elim (eqb last 3) [ true ↦ pairsEnd g s floats bytes | false ↦ repairEnd g s floats bytes last ]
+      | false ↦ elim (ltb last 5) [ true ↦ pairsEnd g s floats bytes last | false ↦ repairEnd g s floats bytes last ]
     ]
 
 -- how many nodes and edges there are, or what a later phase makes

@@ -21,9 +21,9 @@ use limits::MOST_NODES;
 use limits::REFUSED_APART;
 use phases::GRAPH;
 use phases::ODD;
-use phases::PAIRS;
 use phases::Phase;
 use phases::READ;
+use phases::REPAIR;
 
 // Of the graph of n nodes and m edges in the arrays.
 fn phase_of_graph(
@@ -53,7 +53,7 @@ fn phase_of_graph(
     if last == ODD {
         return phases::end_of_odd(ends, weights, next, heads, n, m);
     }
-    if last == PAIRS {
+    if last < REPAIR {
         return phases::end_of_pairs(
             xs,
             ys,
@@ -66,6 +66,7 @@ fn phase_of_graph(
             settings,
             floats,
             bytes,
+            last,
         );
     }
     phases::end_of_repair(
