@@ -83,14 +83,16 @@ fn whole() {
 }
 
 /// One line for each drawing: nanoseconds of each phase of the published planner, with the C library's `hypot`, then
-/// with the machine's root; then of the port if its phases are linked in.
+/// with the machine's root; then of the port, and of all of it, if its phases are linked in.
 fn phases() {
     while let Some((lent, file)) = next_drawing() {
         let memory = RefCell::new(Memory::new(lent));
         let rust = [library_hypot::phase_ends, machine_root::phase_ends].map(|ends| least_phases(|| ends(black_box(&file), now)));
-        let port = times(PHASE_ROUNDS, &mut port_phases(&file, &memory));
-        // The port's go from the start.
-        let port: Vec<f64> = port.iter().scan(0.0, |before, &end| Some(end - std::mem::replace(before, end))).collect();
+        let mut port = times(PHASE_ROUNDS, &mut port_phases(&file, &memory));
+        // The port's go from the start; the last is the whole planner.
+        for i in (1..port.len().saturating_sub(1)).rev() {
+            port[i] -= port[i - 1];
+        }
         println!("{} | {} | {} | {}", counts(&file, lent), words(&rust[0]), words(&rust[1]), words(&port));
     }
 }
@@ -152,11 +154,17 @@ struct Phase {
 
 #[cfg(phases)]
 unsafe extern "C" {
-    // Goes from the start to the end of the phase `last`: read, graph, odd nodes, pairs, repair.
+    // Goes from the start to the end of the phase `last`: read, graph, odd nodes, pairs, searches, repair, line. The
+    // searches are made for each pair on the graph as it was drawn, and lay no copy.
     fn plan_up_to(
         file: *const u8, file_len: usize, floats: *mut f64, floats_len: usize, bytes: *mut u8, bytes_len: usize, last: u32,
     ) -> Phase;
 }
+
+#[cfg(phases)]
+const PAIRS: u32 = 3;
+#[cfg(phases)]
+const LINE: u32 = 6;
 
 #[cfg(phases)]
 impl Memory {
@@ -171,20 +179,16 @@ impl Memory {
     }
 }
 
-#[cfg(phases)]
-const PAIRS: u32 = 3;
-#[cfg(phases)]
-const REPAIR: u32 = 4;
-
+/// Each phase from the start to its end, and then the whole planner.
 #[cfg(phases)]
 fn port_phases<'a>(file: &'a [u8], memory: &'a RefCell<Memory>) -> Vec<Box<dyn FnMut() + 'a>> {
-    let repaired = memory.borrow_mut().plan_up_to(file, REPAIR);
+    let line = memory.borrow_mut().plan_up_to(file, LINE);
     let planned = memory.borrow_mut().plan(file);
-    // A refusal for the output alone is none of repair's.
-    let same = repaired.refusal == planned.refusal && repaired.total.to_bits() == planned.retrace.to_bits();
-    assert!(same || planned.refusal == 14, "the phases are of another planner: {repaired:?}");
+    let same = (line.refusal, line.first, line.total.to_bits()) == (planned.refusal, planned.points, planned.retrace.to_bits());
+    // A refusal for the output alone is none of a phase.
+    assert!(same || planned.refusal == 14, "the phases are of another planner: {line:?}");
     let mut calls: Vec<Box<dyn FnMut() + 'a>> = Vec::new();
-    for last in 0..=REPAIR {
+    for last in 0..=LINE {
         calls.push(Box::new(move || drop(black_box(memory.borrow_mut().plan_up_to(black_box(file), last)))));
     }
     calls.push(Box::new(move || drop(black_box(memory.borrow_mut().plan(black_box(file))))));

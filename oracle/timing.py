@@ -175,22 +175,11 @@ def print_whole(oracle, rows, most=None):
           f" {ratio(by_library[-3], by_library[-2])}; to the machine's root {by_machine[0]}, {ratio(by_machine[-3], by_machine[-1])}.")
 
 
-# The published planner's searches are those of a graph without copies, so that its retraces take what the copies add to
-# them too; the port's are timed with its retraces. The port's times are differences of calls that go from the start. Its
-# pairs hold the clearing of the tables that are lent, and its last phase also writes the record.
+# The searches are those of a graph without copies, so that the retraces take what the copies add to them too. The port's
+# times are differences of calls that go from the start. Its pairs hold the clearing of the tables that are lent; its
+# searches are those of the pairs, and the one that closes a line is among its retraces.
 PHASES = ["read", "build_graph", "check 9, odd nodes", "pairs", "searches", "retraces", "walk to line"]
-PORT = [*PHASES[:4], "searches and retraces", PHASES[6]]
-REPAIR = slice(3, 5)
-
-
-def as_port(times):
-    """The published planner's phases as the port has them."""
-    return [*times[:4], *([sum(times[4:6])] if len(times) > 5 else []), *times[6:]]
-
-
-def print_row(name, cells, columns):
-    """A refused drawing has fewer phases."""
-    print("|", " | ".join([name, *cells, *[""] * (len(columns) - len(cells))]), "|")
+REPAIR = slice(3, 6)
 
 
 def print_phases(oracle, rows):
@@ -201,23 +190,29 @@ def print_phases(oracle, rows):
         print_row(name, [sizes(row[0])], [""])
     print()
     titles = "Rust, C library's hypot", "Rust, machine's root", "port"
-    for at, (title, columns) in enumerate(zip(titles, (PHASES, PHASES, PORT)), 1):
-        if not found[0][at]:
+    for title, times in zip(titles, list(zip(*found))[1:]):
+        if not times[0]:
             return
+        # The port has one more, the whole planner, which also writes the record.
+        columns = PHASES if title != "port" else [*PHASES, "whole"]
         head(f"{title} (µs)", *columns)
-        for name, row in zip(names, found):
-            print_row(name, [micro(t) if title != "port" or seen(row[at], k) else "-" for k, t in enumerate(row[at])], columns)
+        for name, row in zip(names, times):
+            print_row(name, [micro(t) if title != "port" or k == 7 or seen(row, k) else "-" for k, t in enumerate(row)], columns)
         print()
     for at, title in enumerate(titles[:2], 1):
-        columns = [*PORT, "fix_parity"]
+        columns = [*PHASES, "pairs, searches, retraces"]
         head(f"port by {title}", *columns)
         for name, row in zip(names, found):
-            rust, port = as_port(row[at]), row[3]
+            rust, port = row[at], row[3]
             cells = [ratio(p, r) if seen(port, k) and r else "-" for k, (p, r) in enumerate(zip(port, rust))]
-            # Of a refused drawing, repair is the last phase.
-            cells += [""] * (len(PORT) - len(cells))
-            print_row(name, [*cells, ratio(sum(port[REPAIR]), sum(rust[REPAIR])) if len(rust) > 4 else ""], columns)
+            cells += [""] * (len(PHASES) - len(cells))
+            print_row(name, [*cells, ratio(sum(port[REPAIR]), sum(rust[REPAIR])) if len(rust) > 5 else ""], columns)
         print()
+
+
+def print_row(name, cells, columns):
+    """A refused drawing has fewer phases."""
+    print("|", " | ".join([name, *cells, *[""] * (len(columns) - len(cells))]), "|")
 
 
 def seen(port, k):

@@ -1,4 +1,5 @@
 -- What the planner has made at the end of each of its phases, told by two counts and a length.
+-- The phases have numbers: 0 the file is read, 1 the graph, 2 the odd nodes, 3 the pairs, 4 a search for each pair, 5 repair; any other is the line.
 use mathlib.Core.List.{List, [], _∷_}
 use mathlib.Core.Bool.{Bool, true, false}
 use Prim.Native.Nat.{ℕ, _-_}

@@ -1,4 +1,4 @@
--- What the planner has made of a file when a call stops after a phase.
+-- What the planner has made of a file when a call stops after a phase, by the phase's number (crates/phases, specs/Ends).
 use mathlib.Core.List.{List}
 use mathlib.Core.Bool.{true, false}
 use Prim.Native.Nat.{ℕ}

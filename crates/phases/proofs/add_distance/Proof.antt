@@ -4,7 +4,6 @@ use Prim.Native.Nat.{_<_}
 use native.Mathlib.Omega.{arith}
 use lib.ListN.{length}
 use lib.Ieee.{binary64, add, nan}
-use borrow.Author.Needs.{needs}
 use Rattle.graph_adjacency.specs.Lists.{adjacency}
 use Rattle.graph_arrays.specs.Arrays.{edgesIn}
 use Rattle.repair_spec.specs.Distance.{infinity}

@@ -1,12 +1,19 @@
 -- `phases::end_of_line` meets its contract. Assumes nothing.
-use mathlib.Core.Path.{_≡_, _∙_}
 use mathlib.Core.List.{List}
 use Prim.Native.Nat.{ℕ, _-_, _<_}
 use native.Mathlib.Omega.{arith}
 use borrow.Author.Needs.{needs}
+use Rattle.drawing_spec.specs.Drawing.{Point}
+use Rattle.file_records.specs.Meaning.{settingsOf}
+use Rattle.graph_adjacency.specs.Lists.{adjacency}
+use Rattle.graph_arrays.specs.Arrays.{nodesIn, edgesIn}
+use Rattle.walk_spec.specs.Line.{lineOf}
 use Rattle.phases.proofs.Ends.{line-none, line-some}
 use Rattle.phases.proofs.end_of_line.Statement.{statement}
 use Rattle.phases.proofs.end_of_line.Tie as tie
+
+abbrev points : tie.Start → List Point
+points b = lineOf (settingsOf (b .args .settings)) (nodesIn (b .args .n) (b .args .xs .now) (b .args .ys .now)) (edgesIn (b .args .m) (adjacency (b .args .ends .now) (b .args .weights .now) (b .args .next .now) (b .args .heads .now)))
 
 abbrev line : tie.After-line-of → List ℕ
 line c = c .line-of .last .1 .1 .1 .1 .1 .1 .1 .1 .1 .0
@@ -22,7 +29,7 @@ returns : tie.Need-returns
 returns c =
     let f = c .before in
     let b = f .before .before .before .before .before .before in
-    line-none (b .args .n) (b .args .xs .now) (b .args .ys .now) (line f) (f .line-of .result) _ (f .line-of .ensures .1) (f .line-of .ensures .0) (b .args .retrace) (c .if1 .taken)
+    line-none (b .args .n) (b .args .xs .now) (b .args .ys .now) (line f) (f .line-of .result) (points b) (f .line-of .ensures .1) (f .line-of .ensures .0) (b .args .retrace) (c .if1 .taken)
 
 sub-wide : tie.Need-sub-wide
 sub-wide c = search needs
@@ -49,7 +56,7 @@ returns-2 : tie.Need-returns-2
 returns-2 c =
     let f = c .before .before .before .before in
     let b = f .before .before .before .before .before .before in
-    line-some (b .args .n) (b .args .xs .now) (b .args .ys .now) (line f) (f .line-of .result) _ (f .line-of .ensures .1) (f .line-of .ensures .0) (b .args .retrace) (omega (arith, c .before .before .before .if1 .left)) (c .before .before .wide .result) (c .wide2 .result) (c .before .before .wide .ensures) (c .wide2 .ensures)
+    line-some (b .args .n) (b .args .xs .now) (b .args .ys .now) (line f) (f .line-of .result) (points b) (f .line-of .ensures .1) (f .line-of .ensures .0) (b .args .retrace) (omega (arith, c .before .before .before .if1 .left)) (c .before .before .wide .result) (c .wide2 .result) (c .before .before .wide .ensures) (c .wide2 .ensures)
 
 pub end-of-line-spec : {M : Type 1} → statement M
 end-of-line-spec =

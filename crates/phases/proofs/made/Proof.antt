@@ -1,6 +1,5 @@
 -- `phases::made` meets its contract. Assumes nothing.
 use mathlib.Core.Path.{refl}
-use borrow.Author.Needs.{needs}
 use Rattle.phases.proofs.made.Statement.{statement}
 use Rattle.phases.proofs.made.Tie as tie
 

@@ -1,6 +1,5 @@
 -- `phases::refused` meets its contract. Assumes nothing.
 use mathlib.Core.Path.{refl}
-use borrow.Author.Needs.{needs}
 use Rattle.phases.proofs.refused.Statement.{statement}
 use Rattle.phases.proofs.refused.Tie as tie
 
