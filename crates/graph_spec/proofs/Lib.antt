@@ -11,5 +11,6 @@ pub mod Nodes
 pub mod Occurs
 pub mod Odd
 pub mod Reached
+pub mod Sort
 pub mod Strokes
 pub mod Sums

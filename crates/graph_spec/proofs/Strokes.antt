@@ -120,7 +120,7 @@ module _ (P : Point → Type 0) where
   insert-all a p [] h u = (h, tt)
   insert-all a p (q ∷ qs) h u = either (All P) (p ∷ q ∷ qs) (q ∷ insert a p qs) (h, u) (u .0, insert-all a p qs h (u .1)) (leb (squared a p) (squared a q))
 
-  sort-all : (a : Point) (ps : List Point) → All P ps → All P (sort a ps)
+  pub sort-all : (a : Point) (ps : List Point) → All P ps → All P (sort a ps)
   unfolding sort
   sort-all a [] u = tt
   sort-all a (p ∷ ps) u = insert-all a p (sort a ps) (u .0) (sort-all a ps (u .1))
