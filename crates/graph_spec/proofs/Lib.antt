@@ -4,7 +4,6 @@ pub mod Built
 pub mod Connected
 pub mod EdgesAt
 pub mod Examples
-pub mod Few
 pub mod Handshake
 pub mod Lines
 pub mod Nodes

@@ -21,7 +21,7 @@ use Rattle.graph_spec.specs.Count.{sumOver, lineSum, touches, stepsBetween, str
 use Rattle.graph_spec.specs.Ways.{Reach}
 use Rattle.graph_spec.proofs.Reached.{all-reached}
 use Rattle.graph_spec.proofs.Built.{built-inside, built-on}
-use Rattle.graph_spec.proofs.Few.{counted-few}
+use Rattle.graph_counts.proofs.Nodes.{counted-few}
 use Rattle.repair_spec.specs.Repair.{Repair, repaired}
 use Rattle.repair_spec.proofs.Repaired.{Repaired, fixed}
 use Rattle.walk_spec.specs.Line.{lineOf}
@@ -64,7 +64,7 @@ module _ (d : Drawing) (limits : InLimits d) (lent : Lent) (answer : Planned) (D
   short : 16 * length (line d r) < 2 ^ 32
   short = elim (F .copied .limit) [
     | inl m ↦ omega (arith, m, line-few d r F near)
-    | inr e ↦ omega (arith, line-few d r F near, ap length e, counted-few d (limits .counts))
+    | inr e ↦ omega (arith, line-few d r F near, ap length e, counted-few d (limits .counts) .edges)
   ]
 
   written : Written (line d r) (lent .output) (inFront (lineRecord (line d r)) (lent .output))
