@@ -2,6 +2,3 @@
 pub mod Tabulate
 pub mod Arrays
 pub mod NodeList
-pub mod Read
-
--- Whoever filled the arrays from a graph reads that graph:

@@ -1,6 +1,6 @@
 -- The sort of split points by whole numbers is the source's sort by lengths: `sort` compares squared distances in grid steps, the source's `build_graph` the f64 that `hypot` gives,
 -- by a sort that is stable.
-use mathlib.Core.Path.{_≡_, refl, sym, ap, _∙_}
+use mathlib.Core.Path.{_≡_, refl, ap, _∙_}
 use mathlib.Core.Bool.{Bool, true, false}
 use mathlib.Core.List.{List, [], _∷_}
 use Prim.Native.Nat.{_^_, _<_}

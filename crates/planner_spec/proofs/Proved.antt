@@ -22,12 +22,12 @@ use Rattle.graph_spec.specs.Ways.{Reach}
 use Rattle.graph_spec.proofs.Reached.{all-reached}
 use Rattle.graph_spec.proofs.Built.{built-inside, built-on}
 use Rattle.graph_counts.proofs.Nodes.{counted-few}
-use Rattle.repair_spec.specs.Repair.{Repair, repaired}
+use Rattle.repair_spec.specs.Repair.{Repair}
 use Rattle.repair_spec.proofs.Repaired.{Repaired, fixed}
 use Rattle.walk_spec.specs.Line.{lineOf}
 use Rattle.walk_spec.proofs.Orient.{orient-all}
 use Rattle.planner_spec.specs.LineRecord.{inFront, lineRecord, Written}
-use Rattle.planner_spec.specs.Plan.{Lent, Planned, planned, Outcome, drawingIn, repairOf, lineFor, accept, planGraph, planDrawing, plan}
+use Rattle.planner_spec.specs.Plan.{Lent, Planned, Outcome, drawingIn, repairOf, lineFor, planDrawing}
 use Rattle.planner_spec.specs.Words.{retracesIn, copiesBetween, copiesAt, odd, leftOdd}
 use Rattle.planner_spec.proofs.LineRecord.{line-back, record-length}
 use Rattle.planner_spec.proofs.Plan.{line-repaired, drawing-graph, Drawn, drawn, file-planned}
