@@ -21,7 +21,8 @@ use Rattle.graph_nodes.proofs.Points.{held-point}
 use Rattle.graph_adjacency.specs.Lists.{Adjacency, lists}
 use Rattle.graph_arrays.specs.Arrays.{pointIn, nodesIn, edgesIn, EdgesHeld, NodesHeld}
 use Rattle.graph_arrays.proofs.Tabulate.{tabulate-is}
-use Rattle.graph_arrays.proofs.Arrays.{edges-are, lists-linked}
+use Rattle.graph_arrays.proofs.Filled.{edges-are}
+use Rattle.graph_arrays.proofs.Arrays.{lists-linked}
 use Rattle.graph_strokes.specs.Step.{Traced, TracedTo}
 use Rattle.graph.specs.Built.{Built}
 
@@ -54,7 +55,7 @@ module _ (d : Drawing) (c : Counts d) (lines : All (All OnGrid) (d .lines)) (lin
   module _ (a : Adjacency) (is : a ≡ lists es) where
     edges-here : edgesIn (length es) a ≡ es
     unfolding ns es
-    edges-here = edges-are (length ns) es a few-edges (built-inside d) is (few .nodes)
+    edges-here = edges-are es a few-edges is
 
     edges-held : EdgesHeld (length ns) (length es) a
     unfolding ns es
