@@ -52,10 +52,6 @@ pub all-imp : {A : Type 0} (P Q : A → Type 0) → ((x : A) → P x → Q x) �
 all-imp P Q f [] a = tt
 all-imp P Q f (x ∷ xs) a = (f x (a .0), all-imp P Q f xs (a .1))
 
-pub all-both : {A : Type 0} (P Q : A → Type 0) (xs : List A) → All P xs → All Q xs → All (λ (x : A). P x × Q x) xs
-all-both P Q [] a b = tt
-all-both P Q (x ∷ xs) a b = ((a .0, b .0), all-both P Q xs (a .1) (b .1))
-
 -- ---- elements by their places
 
 -- an element read after `set` is the one set, or as before

@@ -1,5 +1,5 @@
 -- Laws of specs/Arrays: whoever pushed edges into the arrays reads those edges of them, and following a node's list gives its edges.
-use mathlib.Core.Path.{_≡_, refl, sym, ap, subst, _∙_}
+use mathlib.Core.Path.{_≡_, sym, ap, subst, _∙_}
 use mathlib.Core.Logic.{inl, inr}
 use mathlib.Core.List.{List, [], _∷_, _++_}
 use Prim.Native.Nat.{ℕ, suc, _+_, _≤_, _<_}
@@ -11,7 +11,7 @@ use Rattle.limits.specs.Limits.{mostNodes, edgeRoom}
 use Rattle.graph_spec.specs.Graph.{Edge, edge, edgesAt}
 use Rattle.graph_spec.specs.Ways.{Inside}
 use Rattle.graph_spec.proofs.EdgesAt.{edgeAt, edgeAt-in}
-use Rattle.graph_adjacency.specs.Lists.{Adjacency, noEdges, push, lists, firstArc}
+use Rattle.graph_adjacency.specs.Lists.{Adjacency, push, lists, firstArc}
 use Rattle.graph_adjacency.specs.Follow.{Ends, Follows}
 use Rattle.graph_adjacency.proofs.Follow.{lists-follow, lists-push}
 use Rattle.drawing_spec.proofs.Members.{in-append}
@@ -55,10 +55,6 @@ module _ (n : ℕ) (es : List Edge) (a : Adjacency) (few : length es ≤ edgeRoo
     linked = is ∙ ap lists (sym (edges-are es a few is));
     inside = subst (Inside n) (sym (edges-are es a few is)) inside;
   }
-
-pub none-linked : (n : ℕ) → n ≤ mostNodes → EdgesLinked n 0 noEdges
-unfolding lists
-none-linked n h = lists-linked n [] noEdges (omega arith) (λ e i. absurd i) refl h
 
 -- one edge more
 module _ (n m u v : ℕ) (w : Float) (a a' : Adjacency) (L : EdgesLinked n m a) (room : m < edgeRoom) (hu : u < n) (hv : v < n) (is : a' ≡ push m u v w a) where

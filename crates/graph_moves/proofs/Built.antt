@@ -108,9 +108,6 @@ uses-chain : (qs : List Point) → usesIn (drawAll qs) ≡ qs
 uses-chain [] = refl
 uses-chain (q ∷ qs) = ap (λ (ps : List Point). q ∷ ps) (uses-chain qs)
 
-pub draw-append : (ps qs : List Point) → drawAll (ps ++ qs) ≡ drawAll ps ++ drawAll qs
-draw-append ps qs = map-append (λ (p : Point). on p) ps qs
-
 pub end-draw : (p : Point) (qs : List Point) (b : Point) → endOf p (drawAll (qs ++ (b ∷ []))) ≡ b
 unfolding endOf
 end-draw p [] b = refl

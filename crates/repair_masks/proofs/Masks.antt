@@ -212,19 +212,6 @@ bits-set (suc k) i n m₀ m h b = go (parity m) (bits-set k (suc i) n m₀ (m / 
 pub places-set : (n m : ℕ) → All (λ (j : ℕ). (j < n) × Bit j m) (placesOf n m)
 places-set n m = bits-set n 0 n m m (omega arith) (λ j b. let e : j ≡ 0 + j = omega arith in rw e at b)
 
--- how many
-bits-count : (k i m : ℕ) → m < 2 ^ k → length (bits k i m) ≡ ones m
-unfolding ones
-bits-count zero i m h = let e : m ≡ 0 = omega arith in ap length (bits-none i m) ∙ ap ones (sym e)
-bits-count (suc k) i m h = go (parity m) (bits-count k (suc i) (m / 2) (omega (arith, double k)))
-  where
-    go : Parity m → length (bits k (suc i) (m / 2)) ≡ ones (m / 2) → length (bits (suc k) i m) ≡ ones m
-    go (odd e) r = omega (arith, ap length (bits-odd k i m e), ones-step m)
-    go (even e) r = omega (arith, ap length (bits-even k i m e), ones-step m)
-
-pub places-count : (n m : ℕ) → m < 2 ^ n → length (placesOf n m) ≡ ones m
-places-count n m h = bits-count n 0 m h
-
 length-bits : (k i m : ℕ) → length (bits k i m) ≤ k
 length-bits zero i m = rw (bits-none i m) (omega arith)
 length-bits (suc k) i m = go (parity m) (length-bits k (suc i) (m / 2))

@@ -6,7 +6,7 @@ use mathlib.Core.List.{List, _∷_}
 use mathlib.Core.Bool.{Bool, true, false}
 use lib.ListN.{length}
 use lib.Dec.{eqb}
-use lib.Count.{ones, trailingZeros}
+use lib.Count.{ones}
 use lib.Pow.{pow-pos, pow-mono}
 use lib.Ieee.{Float, binary64, add, lt}
 use borrow.Author.Tests.{eqb-true, eqb-false, ne-eqb}
@@ -35,11 +35,6 @@ needed-rest n m j p h s e =
 -- where m has so few places, none with places more below e is asked for
 pub needed-more : (n m k e : ℕ) → e ≤ low m → 0 < k → k < 2 ^ e → ones m + 2 * e + 2 ≤ n → Needed n (m + k) → ⊥
 needed-more n m k e l some h few w = omega (arith, ones-lowest 64 m k e l some h)
-
--- no places at all
-pub needed-none : (n : ℕ) → n ≤ 64 → Needed n 0
-unfolding trailingZeros
-needed-none n h = omega arith
 
 tries-done : (k : ℕ) (cost row : ℕ → Float) (others : ℕ) (b : Least) → tries k cost row others 0 b ≡ b
 unfolding tries
