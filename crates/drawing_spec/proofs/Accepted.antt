@@ -9,7 +9,7 @@ use Rattle.grid.specs.Grid.{readPlace}
 use Rattle.limits.specs.Limits.{mostBytes, mostLines, mostPoints, mostLinks}
 use Rattle.drawing_spec.specs.Bytes.{number}
 use Rattle.drawing_spec.specs.Drawing.{Drawing}
-use Rattle.drawing_spec.specs.Members.{All}
+use Rattle.lists.specs.Members.{All}
 use Rattle.drawing_spec.proofs.Same.{both}
 use Rattle.drawing_spec.specs.Refusal.{Condition, condition, accepted, verdict}
 use Rattle.drawing_spec.specs.Read.{placeAt, points, drawingOf, every, kindsFit, lengthsFit, settingsFit, countsFit, coordinatesFit, linksFit, recordsOf, isCut, readConditions}

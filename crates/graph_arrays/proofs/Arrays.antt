@@ -14,10 +14,10 @@ use Rattle.graph_spec.proofs.EdgesAt.{edgeAt, edgeAt-in}
 use Rattle.graph_adjacency.specs.Lists.{Adjacency, push, lists, firstArc}
 use Rattle.graph_adjacency.specs.Follow.{Ends, Follows}
 use Rattle.graph_adjacency.proofs.Follow.{lists-follow, lists-push}
-use Rattle.drawing_spec.proofs.Members.{in-append}
+use Rattle.lists.proofs.Members.{in-append}
 use Rattle.graph_arrays.specs.Arrays.{edgeIn, edgesIn, EdgesLinked, AreNodes, Front}
 use Rattle.graph_arrays.proofs.Ends.{inside-ends}
-use Rattle.graph_arrays.proofs.Tabulate.{tabulate-length, tabulate-at}
+use Rattle.lists.proofs.Tabulate.{tabulate-length, tabulate-at}
 use Rattle.graph_arrays.proofs.Filled.{edges-are}
 
 -- ---- reading
@@ -91,13 +91,12 @@ pub nodes-most : (n : ℕ) (array : List ℕ) (count : ℕ) → AreNodes n array
 nodes-most n array count W h = record { few = W .few; long = W .long; below = λ i l. omega (arith, W .below i l) }
 
 -- a list of nodes at the front of an array
-module _ (n : ℕ) (vs array : List ℕ) (count : ℕ) (F : Front vs array count) where
+module _ (vs array : List ℕ) (count : ℕ) (F : Front vs array count) where
   pub front-at : (i : ℕ) → i < count → getD array i 0 ≡ getD vs i 0
   front-at i h = sym (getD-take count array i 0 h) ∙ ap (λ (l : List ℕ). getD l i 0) (F .are)
 
-  pub front-nodes : length vs ≤ mostNodes → ((i : ℕ) → i < length vs → getD vs i 0 < n) → AreNodes n array count
-  front-nodes few below = record {
-    few = omega (arith, F .counts);
-    long = omega (arith, F .counts, ap length (F .are), length-take count array);
-    below = λ i h. omega (arith, front-at i h, below i (omega (arith, F .counts)));
-  }
+  pub front-long : count ≤ length array
+  front-long = omega (arith, F .counts, ap length (F .are), length-take count array)
+
+  pub front-nodes : (n : ℕ) → length vs ≤ mostNodes → ((i : ℕ) → i < length vs → getD vs i 0 < n) → AreNodes n array count
+  front-nodes n few below = record { few = omega (arith, F .counts); long = front-long; below = λ i h. omega (arith, front-at i h, below i (omega (arith, F .counts))) }

@@ -13,7 +13,7 @@ use Rattle.graph_spec.proofs.EdgesAt.{edgeAt}
 use Rattle.graph_adjacency.specs.Lists.{Adjacency, noEdges, push, pushed, lists}
 use Rattle.graph_adjacency.proofs.Follow.{Sized, push-sized, lists-sized}
 use Rattle.graph_arrays.proofs.Ends.{At, lists-at}
-use Rattle.graph_arrays.proofs.Tabulate.{tabulate-is}
+use Rattle.lists.proofs.Tabulate.{tabulate-is}
 use Rattle.graph_arrays.specs.Arrays.{edgeIn, edgesIn}
 
 -- ---- edges

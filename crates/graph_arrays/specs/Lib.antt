@@ -1,4 +1,3 @@
 -- The graph that flat arrays hold, read of them.
-pub mod Tabulate
 pub mod Arrays
 pub mod NodeList

@@ -12,8 +12,8 @@ use Rattle.sums.specs.Key.{Nonneg}
 use Rattle.grid.specs.Grid.{gridExponent}
 use Rattle.length.proofs.LengthLaws.{squared-lt, length-nonneg}
 use Rattle.drawing_spec.specs.Drawing.{Point, Drawing}
-use Rattle.drawing_spec.specs.Members.{In, All}
-use Rattle.drawing_spec.proofs.Members.{all-in, all-map, all-imp}
+use Rattle.lists.specs.Members.{In, All}
+use Rattle.lists.proofs.Members.{all-in, all-map, all-imp}
 use Rattle.drawing_spec.specs.OnGrid.{OnGrid, AtEnds}
 use Rattle.graph_spec.specs.Pieces.{Stroke, strokesOf, usesOf}
 use Rattle.graph_spec.specs.Chain.{squared}

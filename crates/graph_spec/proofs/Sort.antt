@@ -12,7 +12,7 @@ use Rattle.grid.specs.Grid.{gridExponent}
 use Rattle.length.specs.Root.{lengthOf}
 use Rattle.length.proofs.LengthLaws.{squared-lt, length-order}
 use Rattle.drawing_spec.specs.Drawing.{Point}
-use Rattle.drawing_spec.specs.Members.{All}
+use Rattle.lists.specs.Members.{All}
 use Rattle.drawing_spec.specs.OnGrid.{OnGrid}
 use Rattle.graph_spec.specs.Chain.{squared, insert, sort}
 use Rattle.graph_spec.proofs.Strokes.{sort-all}

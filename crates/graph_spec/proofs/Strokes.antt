@@ -8,8 +8,8 @@ use native.Mathlib.Omega.{arith}
 use lib.Dec.{eqb, leb}
 use Rattle.drawing_spec.specs.Drawing.{Point, same, End, Link, Drawing}
 use Rattle.drawing_spec.proofs.Same.{same-true, differ}
-use Rattle.drawing_spec.specs.Members.{All}
-use Rattle.drawing_spec.proofs.Members.{either, all-append, all-front, all-back}
+use Rattle.lists.specs.Members.{All}
+use Rattle.lists.proofs.Members.{either, all-append, all-front, all-back}
 use Rattle.drawing_spec.specs.OnGrid.{AtEnds}
 use Rattle.graph_spec.specs.Chain.{squared, naming, splits, insert, sort, inner, changes, distinct, chain}
 use Rattle.graph_spec.specs.Pieces.{Stroke, stroke, pieces, linePieces, lineUses, piecesFrom, usesFrom, piecesOf, linkStrokes, linksOf, strokesOf, linkUses, usesOf}

@@ -7,8 +7,8 @@ use native.Mathlib.Omega.{arith}
 use lib.ListN.{length}
 use Rattle.limits.specs.Limits.{mostEdges, refusedEdges}
 use Rattle.drawing_spec.specs.Drawing.{Point, Drawing}
-use Rattle.drawing_spec.specs.Members.{All}
-use Rattle.drawing_spec.proofs.Members.{in-all, all-map}
+use Rattle.lists.specs.Members.{All}
+use Rattle.lists.proofs.Members.{in-all, all-map}
 use Rattle.drawing_spec.specs.OnGrid.{OnGrid}
 use Rattle.drawing_spec.specs.Accepted.{InLimits}
 use Rattle.drawing_spec.specs.Refusal.{accepted, verdict}

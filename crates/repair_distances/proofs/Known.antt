@@ -18,6 +18,6 @@ use Rattle.repair_distances.specs.Rows.{Rows}
 pub table-known : (n : ℕ) (es : List Edge) (odd vs : List ℕ) (count : ℕ) (ws : List Float) → Front vs odd count → Rows n es odd count count ws
     → (i j : ℕ) → i < count → j < count → distanceIn (rows n es vs) (getD odd i 0) (getD odd j 0) ≡ matrix count ws i j
 table-known n es odd vs count ws F R i j h k =
-    let at = front-at n vs odd count F i h in
+    let at = front-at vs odd count F i h in
     ap (λ (u : ℕ). distanceIn (rows n es vs) u (getD odd j 0)) at ∙ row-known n es vs i (getD odd j 0) (omega (arith, F .counts))
     ∙ sym (R i j h k ∙ ap (λ (u : ℕ). distanceAt (distances n es u) (getD odd j 0)) at)

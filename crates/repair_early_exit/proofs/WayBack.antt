@@ -10,7 +10,7 @@ use lib.Dec.{eqb}
 use lib.Ieee.{Float, binary64}
 use Rattle.sums.specs.Key.{Nonneg, key}
 use Rattle.graph_spec.specs.Graph.{Edge, Arc, edgesAt}
-use Rattle.drawing_spec.specs.Members.{In}
+use Rattle.lists.specs.Members.{In}
 use Rattle.graph_spec.proofs.EdgesAt.{arc-joins}
 use Rattle.repair_spec.specs.Distance.{distanceAt}
 use Rattle.repair_spec.specs.Retrace.{Path, Step, to, none, found, error, onWayBack, member, stepBack, wayBack}

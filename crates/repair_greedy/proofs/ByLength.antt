@@ -1,6 +1,6 @@
 -- The nearest two by whole numbers are the nearest two by lengths, as the source's `greedy_euclidean_matching` compares them: `closest` compares squared
 -- distances in grid steps, the source the f64 that `hypot` gives, from infinity on.
-use mathlib.Core.Path.{_≡_, refl, sym, ap, _∙_}
+use mathlib.Core.Path.{_≡_, refl, ap, _∙_}
 use mathlib.Core.Bool.{Bool, true, false}
 use mathlib.Core.List.{List, [], _∷_}
 use Prim.Native.Nat.{ℕ, suc, _^_, _<_}
@@ -16,7 +16,7 @@ use Rattle.grid.specs.Grid.{gridExponent}
 use Rattle.length.specs.Root.{lengthOf}
 use Rattle.length.proofs.LengthLaws.{length-order, length-nonneg, length-finite}
 use Rattle.drawing_spec.specs.Drawing.{Point}
-use Rattle.drawing_spec.specs.Members.{All}
+use Rattle.lists.specs.Members.{All}
 use Rattle.drawing_spec.specs.OnGrid.{OnGrid}
 use Rattle.graph_spec.specs.Chain.{squared}
 use Rattle.graph_spec.proofs.Sort.{small-squared}

@@ -11,7 +11,7 @@ use lib.Dec.{eqb}
 use lib.Count.{trailingZeros, under, ones, ones-step}
 use lib.Pow.{pow-pos, pow-mono}
 use borrow.Author.Tests.{eqb-true, eqb-false, eq-eqb, ne-eqb}
-use Rattle.drawing_spec.specs.Members.{All}
+use Rattle.lists.specs.Members.{All}
 use Rattle.repair_spec.specs.Pairing.{without}
 use Rattle.repair_masks.specs.Places.{upTo}
 use Rattle.repair_masks.proofs.Places.{without-yes, without-no}
@@ -275,10 +275,15 @@ ones-lowest (suc w) m k (suc e) l some h = go (parity m) (parity k) l (λ a b c.
               omega (arith, i, a, ones-step m, ones-step (m + k), ap ones half)
         ]
 
--- a mask with an odd number of places has one
+-- the mask 0 has no places
 pub ones-zero : ones 0 ≡ 0
 unfolding ones
 ones-zero = refl
+
+-- so a mask that has some is not 0
+pub some-places : (m : ℕ) → 0 < ones m → 0 < m
+some-places zero h = absurd (omega (arith, ones-zero))
+some-places (suc m) h = omega arith
 
 pub full-bit : (n v : ℕ) → v < n → Bit v (2 ^ n - 1)
 full-bit zero v h = absurd (omega arith)

@@ -3,12 +3,12 @@ use mathlib.Core.Path.{_≡_, refl, sym, ap, _∙_}
 use mathlib.Core.Logic.{inl, inr}
 use mathlib.Core.List.{List, [], _∷_}
 use mathlib.Core.Bool.{Bool, true, false}
-use Prim.Native.Nat.{ℕ, zero, suc, _+_, _<_}
+use Prim.Native.Nat.{ℕ, zero, suc, _+_, _≤_, _<_}
 use native.Mathlib.Omega.{arith}
 use lib.ListN.{length}
 use lib.Dec.{eqb, ltb}
 use borrow.Author.Tests.{lt-ltb, le-ltb, eqb-true}
-use Rattle.drawing_spec.specs.Members.{In}
+use Rattle.lists.specs.Members.{In}
 use Rattle.graph_spec.specs.Graph.{Edge, Arc, edgesAt}
 use Rattle.graph_spec.specs.Odd.{one, hit, degree}
 use Rattle.graph_spec.specs.Ways.{Joins}
@@ -19,7 +19,7 @@ use Rattle.graph_adjacency.specs.Follow.{Follows}
 use Rattle.graph_adjacency.proofs.Follow.{follows-none, follows-arc}
 use Rattle.graph_arrays.specs.Arrays.{EdgesLinked, edgesIn}
 use Rattle.graph_arrays.proofs.Arrays.{follows-edges}
-use Rattle.graph_arrays.proofs.Listing.{Chosen}
+use Rattle.graph_arrays.proofs.Listing.{Chosen, chosen-few}
 use Rattle.walk_spec.specs.Start.{withEdges}
 
 -- ---- they are those of all nodes that pass a test
@@ -30,6 +30,9 @@ edgesMeet es v = ltb 0 (degree es v)
 pub with-chosen : (es : List Edge) → Chosen (withEdges es) (edgesMeet es)
 unfolding withEdges
 with-chosen es = record { nil = λ v. refl; step = λ k v. refl }
+
+pub with-few : (es : List Edge) (n : ℕ) → length (withEdges es n 0) ≤ n
+with-few es n = chosen-few (withEdges es) (edgesMeet es) (with-chosen es) n
 
 -- ---- a node has an edge where its list has a first arc
 
