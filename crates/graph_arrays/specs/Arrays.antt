@@ -13,7 +13,7 @@ use Rattle.graph_spec.specs.Graph.{Edge, edge, Graph}
 use Rattle.graph_spec.specs.Ways.{Inside}
 use Rattle.graph_spec.specs.Weights.{Searchable}
 use Rattle.graph_adjacency.specs.Lists.{Adjacency, lists}
-use Rattle.graph_arrays.specs.Tabulate.{tabulate}
+use Rattle.lists.specs.Tabulate.{tabulate}
 
 abbrev pub pointIn : List ℕ → List ℕ → ℕ → Point
 pointIn xs ys v = record { x = getD xs v 0; y = getD ys v 0 }

@@ -2,7 +2,7 @@
 use mathlib.Core.Path.{_≡_, refl, ap, _∙_}
 use mathlib.Core.Logic.{inl, inr}
 use mathlib.Core.List.{List, [], _∷_, map}
-use Prim.Native.Nat.{ℕ, zero, suc, _-_, _^_, _≤_, _<_, _*_}
+use Prim.Native.Nat.{ℕ, suc, _-_, _^_, _≤_, _<_, _*_}
 use native.Mathlib.Omega.{arith}
 use lib.ListN.{length, getD, take, set, length-set}
 use lib.Seq.{getD-take, length-take-le}
@@ -10,12 +10,11 @@ use Rattle.grid.specs.Grid.{origin}
 use Rattle.limits.specs.Limits.{mostNodes}
 use Rattle.length.specs.Root.{squaredOf}
 use Rattle.length.proofs.LengthLaws.{square-le}
-use Rattle.drawing_spec.specs.Drawing.{Point}
-use Rattle.drawing_spec.proofs.Members.{set-cases}
+use Rattle.lists.proofs.Elements.{set-cases}
 use Rattle.graph_spec.specs.Chain.{squared}
 use Rattle.graph_arrays.specs.Arrays.{pointIn, nodesIn, NodesHeld, AreNodes}
-use Rattle.graph_arrays.proofs.Tabulate.{tabulate-at}
-use Rattle.repair_spec.specs.Pairing.{noPoint}
+use Rattle.graph_spec.specs.Graph.{noPoint}
+use Rattle.lists.proofs.Tabulate.{tabulate-at}
 use Rattle.repair_greedy.specs.Rows.{at}
 
 -- a distance by the coordinates

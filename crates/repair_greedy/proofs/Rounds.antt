@@ -10,11 +10,12 @@ use lib.Dec.{ltb}
 use borrow.Author.Tests.{lt-ltb, le-ltb}
 use Rattle.drawing_spec.specs.Drawing.{Point}
 use Rattle.limits.specs.Limits.{mostPairs}
-use Rattle.repair_spec.specs.Pairing.{Pair, pair, Closest, nothing, between, closest, swapRemove, greedyPairs, noPoint}
+use Rattle.repair_spec.specs.Pairing.{Pair, pair, Closest, nothing, between, closest, swapRemove, greedyPairs}
 use Rattle.repair_spec.proofs.Pairs.{Places, closest-places}
 use Rattle.repair_spec.specs.PairsIn.{pairsIn, PairRoom}
 use Rattle.repair_spec.proofs.PairsIn.{pairs-more, room-more}
 use Rattle.graph_arrays.specs.Arrays.{pointIn, nodesIn, AreNodes}
+use Rattle.graph_spec.specs.Graph.{noPoint}
 use Rattle.repair_greedy.proofs.Points.{nodes-removed, points-of}
 use Rattle.repair_greedy.specs.Bounds.{Bounds}
 use Rattle.repair_greedy.proofs.Bounds.{bounds-removed}

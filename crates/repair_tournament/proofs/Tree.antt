@@ -9,25 +9,18 @@ use native.Mathlib.Omega.{arith}
 use lib.ListN.{length, set, replicate, length-set, length-replicate, getD-replicate}
 use lib.Seq.{getD-set-same, getD-set-other}
 use lib.Ieee.{Float, nan, binary64, lt}
-use borrow.Author.Tests.{ltb-true, ltb-false}
 use Rattle.limits.specs.Limits.{mostNodes}
 use Rattle.sums.specs.Key.{Nonneg, key}
-use Rattle.sums.proofs.KeyLaws.{lt-key, key-inj}
+use Rattle.sums.proofs.KeyLaws.{key-inj, lt-false, lt-true}
 use Rattle.sums.proofs.Sum.{inf-nonneg}
 use Rattle.repair_tournament.specs.Tree.{Stored, Tree, Won, at, infinity, lesser, pick, value}
 
 -- ---- order
 
 module _ (x y : Float) (p : Nonneg binary64 x) (q : Nonneg binary64 y) where
-  lt-true : lt x y ≡ true → key binary64 x < key binary64 y
-  lt-true h = ltb-true (key binary64 x) (key binary64 y) (sym (lt-key binary64 x y p q) ∙ h)
-
-  pub lt-false : lt x y ≡ false → key binary64 y ≤ key binary64 x
-  lt-false h = ltb-false (key binary64 x) (key binary64 y) (sym (lt-key binary64 x y p q) ∙ h)
-
   -- neither is less than the other
   pub equal : lt x y ≡ false → lt y x ≡ false → x ≡ y
-  equal h k = key-inj binary64 x y p q (le-antisymm (ltb-false (key binary64 y) (key binary64 x) (sym (lt-key binary64 y x q p) ∙ k)) (lt-false h))
+  equal h k = key-inj binary64 x y p q (le-antisymm (lt-false y x q p k) (lt-false x y p q h))
 
 module _ (x y : Float) (p : Nonneg binary64 x) (q : Nonneg binary64 y) where
   pub lesser-nonneg : Nonneg binary64 (lesser x y)

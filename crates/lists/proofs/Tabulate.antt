@@ -6,7 +6,7 @@ use native.Mathlib.Nat.{add-zero, suc-add, add-suc, le-of-suc-le-suc}
 use native.Mathlib.Omega.{arith}
 use lib.ListN.{length, getD}
 use lib.Seq.{ext-getD}
-use Rattle.graph_arrays.specs.Tabulate.{tabulate}
+use Rattle.lists.specs.Tabulate.{tabulate}
 
 pub tabulate-length : {A : Type 0} (f : ℕ → A) (k i : ℕ) → length (tabulate f k i) ≡ k
 unfolding tabulate
