@@ -217,10 +217,8 @@ fn refusal(v: Verdict) -> u64 {
 }
 
 // Whether a file is read as the data says at a place.
-fn right(data: &[u8], at: usize, file: [u8; 65600], len: usize) -> bool
-    requires { ⌜ len ≤ 65600 ⌝ }
-{
-    let reading = file::read(&file[..len]);
+fn right(data: &[u8], at: usize, file: &[u8]) -> bool {
+    let reading = file::read(file);
     let verdict = reading.verdict;
     if refusal(verdict) != number(data, at, 0, 1) {
         return false;
@@ -235,6 +233,13 @@ fn right(data: &[u8], at: usize, file: [u8; 65600], len: usize) -> bool
     }
     let edges = drawing.links;
     edges_right(data, test_data::past(at, 7), count, edges)
+}
+
+// The same for the front of an array.
+fn front_right(data: &[u8], at: usize, file: [u8; 65600], len: usize) -> bool
+    requires { ⌜ len ≤ 65600 ⌝ }
+{
+    right(data, at, &file[..len])
 }
 
 // Where the next case starts, and 1 where this one came out otherwise.
@@ -252,7 +257,7 @@ fn run(data: &[u8], at: usize) -> Step
     let answer = built.next;
     let links = (number(data, answer, 5, 2) % 65536) as usize;
     let next = test_data::past(answer, 7 + 24 * links);
-    if right(data, answer, file, len) {
+    if front_right(data, answer, file, len) {
         return Step { next, wrong: 0 };
     }
     Step { next, wrong: 1 }
