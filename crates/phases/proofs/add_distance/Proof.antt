@@ -7,7 +7,7 @@ use lib.Ieee.{binary64, add, nan}
 use Rattle.graph_adjacency.specs.Lists.{adjacency}
 use Rattle.graph_arrays.specs.Arrays.{edgesIn}
 use Rattle.repair_spec.specs.Distance.{infinity}
-use Rattle.repair_search.proofs.OfferLaws.{getD-inside}
+use Rattle.lists.proofs.Elements.{getD-inside}
 use Rattle.repair_search.proofs.Search.{goal-same}
 use Rattle.phases.proofs.add_distance.Statement.{statement}
 use Rattle.phases.proofs.add_distance.Tie as tie
