@@ -18,7 +18,8 @@ use Rattle.graph_adjacency.specs.Lists.{Adjacency}
 use Rattle.graph_arrays.specs.Arrays.{pointIn, edgeIn, nodesIn, edgesIn, graphIn, EdgesHeld, Front}
 use Rattle.graph_arrays.specs.NodeList.{NodeList, pointsAlong}
 use Rattle.lists.proofs.Tabulate.{tabulate-length}
-use Rattle.graph_arrays.proofs.NodeList.{front-at, point-at}
+use Rattle.graph_arrays.proofs.Arrays.{front-at}
+use Rattle.graph_arrays.proofs.NodeList.{point-at}
 use Rattle.repair_spec.specs.Distance.{zeroLength, distanceAt, distances}
 use Rattle.repair_spec.specs.PairsIn.{pairsIn}
 use Rattle.repair_spec.proofs.PairsIn.{pairs-count}
