@@ -15,7 +15,7 @@ use Rattle.graph_spec.specs.Graph.{Graph, buildGraph}
 use Rattle.graph_spec.specs.Reach.{allReached}
 use Rattle.graph_adjacency.specs.Lists.{Adjacency}
 use Rattle.graph_arrays.specs.Arrays.{pointIn, edgeIn, nodesIn, edgesIn, graphIn}
-use Rattle.graph_arrays.proofs.Tabulate.{tabulate-length}
+use Rattle.lists.proofs.Tabulate.{tabulate-length}
 use Rattle.graph.specs.Built.{Built}
 use Rattle.file_records.specs.Meaning.{settingsOf}
 use Rattle.file_records.specs.declared.MstEdge.{MstEdge}
