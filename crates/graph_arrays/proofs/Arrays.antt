@@ -15,7 +15,7 @@ use Rattle.graph_adjacency.specs.Lists.{Adjacency, push, lists, firstArc}
 use Rattle.graph_adjacency.specs.Follow.{Ends, Follows}
 use Rattle.graph_adjacency.proofs.Follow.{lists-follow, lists-push}
 use Rattle.lists.proofs.Members.{in-append}
-use Rattle.graph_arrays.specs.Arrays.{edgeIn, edgesIn, EdgesLinked, AreNodes, Front}
+use Rattle.graph_arrays.specs.Arrays.{edgeIn, edgesIn, EdgesLinked, Front}
 use Rattle.graph_arrays.proofs.Ends.{inside-ends}
 use Rattle.lists.proofs.Tabulate.{tabulate-length, tabulate-at}
 use Rattle.graph_arrays.proofs.Filled.{edges-are}
@@ -85,11 +85,6 @@ module _ (n m u v : ℕ) (w : Float) (a a' : Adjacency) (L : EdgesLinked n m a) 
   pub pushed-linked : EdgesLinked n (suc m) a'
   pushed-linked = subst (λ (k : ℕ). EdgesLinked n k a') es-count (lists-linked n es a' (omega (arith, es-count)) es-inside pushed-lists (L .few-nodes))
 
--- ---- listed nodes
-
-pub nodes-most : (n : ℕ) (array : List ℕ) (count : ℕ) → AreNodes n array count → n ≤ mostNodes → AreNodes mostNodes array count
-nodes-most n array count W h = record { few = W .few; long = W .long; below = λ i l. omega (arith, W .below i l) }
-
 -- a list of nodes at the front of an array
 module _ (vs array : List ℕ) (count : ℕ) (F : Front vs array count) where
   pub front-at : (i : ℕ) → i < count → getD array i 0 ≡ getD vs i 0
@@ -97,6 +92,3 @@ module _ (vs array : List ℕ) (count : ℕ) (F : Front vs array count) where
 
   pub front-long : count ≤ length array
   front-long = omega (arith, F .counts, ap length (F .are), length-take count array)
-
-  pub front-nodes : (n : ℕ) → length vs ≤ mostNodes → ((i : ℕ) → i < length vs → getD vs i 0 < n) → AreNodes n array count
-  front-nodes n few below = record { few = omega (arith, F .counts); long = front-long; below = λ i h. omega (arith, front-at i h, below i (omega (arith, F .counts))) }

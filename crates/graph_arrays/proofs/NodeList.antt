@@ -4,7 +4,8 @@ use mathlib.Core.List.{List, [], _∷_, map}
 use Prim.Native.Nat.{ℕ, suc, _≤_, _<_}
 use native.Mathlib.Decide.{decLe}
 use native.Mathlib.Omega.{arith}
-use lib.ListN.{length, List·getD-eq-default}
+use lib.ListN.{length, getD, List·getD-eq-default}
+use Rattle.limits.specs.Limits.{mostNodes}
 use Rattle.lists.specs.Members.{All}
 use Rattle.lists.proofs.Members.{all-at}
 use Rattle.drawing_spec.specs.OnGrid.{OnGrid}
@@ -33,9 +34,17 @@ pub points-on : (n : ℕ) (xs ys : List ℕ) → NodesHeld n xs ys → (vs : Lis
 points-on n xs ys h [] = tt
 points-on n xs ys h (v ∷ vs) = (at-on n xs ys h v, points-on n xs ys h vs)
 
-pub front-list : (vs array : List ℕ) (count : ℕ) → Front vs array count → (n room : ℕ) → length vs ≤ room → All (λ (v : ℕ). v < n) vs → NodeList n room array count
-front-list vs array count f n room fits all = record {
-  fits = omega (arith, f .counts);
-  long = front-long vs array count f;
-  nodes-in = λ j h. rw (front-at vs array count f j h) (all-at (λ (v : ℕ). v < n) vs all j 0 (omega (arith, f .counts)));
-}
+pub nodes-most : (n room : ℕ) (array : List ℕ) (count : ℕ) → NodeList n room array count → n ≤ mostNodes → NodeList mostNodes room array count
+nodes-most n room array count W h = record { fits = W .fits; long = W .long; nodes-in = λ i l. omega (arith, W .nodes-in i l) }
+
+-- a list of nodes at the front of an array
+module _ (vs array : List ℕ) (count : ℕ) (F : Front vs array count) (n room : ℕ) (fits : length vs ≤ room) where
+  pub front-nodes : ((i : ℕ) → i < length vs → getD vs i 0 < n) → NodeList n room array count
+  front-nodes below = record {
+    fits = omega (arith, F .counts);
+    long = front-long vs array count F;
+    nodes-in = λ i h. omega (arith, front-at vs array count F i h, below i (omega (arith, F .counts)));
+  }
+
+  pub front-list : All (λ (v : ℕ). v < n) vs → NodeList n room array count
+  front-list all = front-nodes (λ i h. all-at (λ (v : ℕ). v < n) vs all i 0 h)

@@ -55,9 +55,3 @@ pub record NodesHeld (n : ℕ) (xs ys : List ℕ) : Type 0 where
 pub record Front (vs array : List ℕ) (count : ℕ) : Type 0 where
   pub counts : count ≡ length vs
   pub are : take count array ≡ vs
-
--- The first `count` elements of an array are nodes, of n.
-pub record AreNodes (n : ℕ) (array : List ℕ) (count : ℕ) : Type 0 where
-  pub few : count ≤ mostNodes
-  pub long : count ≤ length array
-  pub below : (i : ℕ) → i < count → getD array i 0 < n

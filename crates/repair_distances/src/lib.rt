@@ -4,7 +4,8 @@ ghost use Prim.Native.Nat.{_+_, _*_, _^_, _<_, _≤_};
 ghost use lib.ListN.{length};
 ghost use Rattle.limits.specs.Limits.{mostNodes, mostOdd};
 ghost use Rattle.graph_adjacency.specs.Lists.{adjacency};
-ghost use Rattle.graph_arrays.specs.Arrays.{edgesIn, EdgesHeld, AreNodes};
+ghost use Rattle.graph_arrays.specs.Arrays.{edgesIn, EdgesHeld};
+ghost use Rattle.graph_arrays.specs.NodeList.{NodeList};
 ghost use Rattle.repair_search.specs.Touched.{Unreached};
 ghost use Rattle.repair_distances.specs.Rows.{Copied, Row, Rows};
 use limits::ARC_ROOM;
@@ -19,7 +20,7 @@ fn copy_row(
     table: &mut [f64],
     start: usize,
 )
-    requires { ⌜ (start + count ≤ length (now table)) × AreNodes mostNodes (now odd) count ⌝ }
+    requires { ⌜ (start + count ≤ length (now table)) × NodeList mostNodes mostNodes (now odd) count ⌝ }
     ensures { λ _. ⌜ Copied (now (at .entry)) (now (odd .entry)) count start (now (table .entry)) (now (table .exit)) ⌝ }
 {
     let mut j = 0;
@@ -48,7 +49,7 @@ fn fill_row(
 )
     requires search { ⌜ Unreached n (now dist) (now tree) (now touched) ⌝ }
     requires edges { ⌜ EdgesHeld n m (adjacency (now ends) (now weights) (now next) (now heads)) ⌝ }
-    requires listed { ⌜ AreNodes n (now odd) count × (i < count) × (count ≤ mostOdd) × (2 ^ count + count * count ≤ length (now table)) ⌝ }
+    requires listed { ⌜ NodeList n mostNodes (now odd) count × (i < count) × (count ≤ mostOdd) × (2 ^ count + count * count ≤ length (now table)) ⌝ }
     ensures row { λ _. ⌜ Row n (edgesIn m (adjacency (now (ends .entry)) (now (weights .entry)) (now (next .entry)) (now (heads .entry)))) (now (odd .entry)) count i (now (table .entry)) (now (table .exit)) ⌝ }
     ensures kept { λ _. ⌜ Unreached n (now (dist .exit)) (now (tree .exit)) (now (touched .exit)) ⌝ }
 {
@@ -85,7 +86,7 @@ pub fn fill_rows(
     table: &mut [f64],
 )
     requires edges { ⌜ EdgesHeld n m (adjacency (now ends) (now weights) (now next) (now heads)) ⌝ }
-    requires listed { ⌜ AreNodes n (now odd) count × (count ≤ mostOdd) × (2 ^ count + count * count ≤ length (now table)) ⌝ }
+    requires listed { ⌜ NodeList n mostNodes (now odd) count × (count ≤ mostOdd) × (2 ^ count + count * count ≤ length (now table)) ⌝ }
     ensures { λ _. ⌜ Rows n (edgesIn m (adjacency (now (ends .entry)) (now (weights .entry)) (now (next .entry)) (now (heads .entry)))) (now (odd .entry)) count count (now (table .exit)) ⌝ }
 {
     let infinity = repair_tournament::infinity();

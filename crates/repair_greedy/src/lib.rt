@@ -8,7 +8,8 @@ ghost use lib.ListN.{getD, take, drop, set};
 ghost use Rattle.grid.specs.Grid.{origin};
 ghost use Rattle.limits.specs.Limits.{mostNodes, mostPairs};
 ghost use Rattle.graph_spec.specs.Chain.{squared};
-ghost use Rattle.graph_arrays.specs.Arrays.{pointIn, nodesIn, NodesHeld, AreNodes};
+ghost use Rattle.graph_arrays.specs.Arrays.{pointIn, nodesIn, NodesHeld};
+ghost use Rattle.graph_arrays.specs.NodeList.{NodeList};
 ghost use Rattle.repair_spec.specs.Pairing.{nothing, between, closer, closestTo, closest, greedyPairs};
 ghost use Rattle.repair_spec.specs.PairsIn.{pairsIn, PairRoom};
 ghost use Rattle.repair_greedy.specs.Rows.{at, AtMost};
@@ -53,7 +54,7 @@ fn scan_row(
     left: usize,
     i: usize,
 ) -> Nearest
-    requires { ⌜ (i + 1 < left) × NodesHeld mostNodes (now xs) (now ys) × AreNodes mostNodes (now working) left ⌝ }
+    requires { ⌜ (i + 1 < left) × NodesHeld mostNodes (now xs) (now ys) × NodeList mostNodes mostNodes (now working) left ⌝ }
     ensures { λ r. ⌜ closestTo (pointIn (now (xs .entry)) (now (ys .entry)) (getD (now (working .entry)) i 0)) i (drop (i + 1) (map (pointIn (now (xs .entry)) (now (ys .entry))) (take left (now (working .entry))))) (i + 1) nothing ≡ between (r .from) (r .to) (r .squared) ⌝ }
 {
     let u = widen::wide(working[i]);
@@ -86,7 +87,7 @@ fn with_row(
     i: usize,
     best: Nearest,
 ) -> Nearest
-    requires { ⌜ (i + 1 < left) × NodesHeld mostNodes (now xs) (now ys) × AreNodes mostNodes (now working) left × Bounds (pointIn (now xs) (now ys)) (now working) left (now lows) ⌝ }
+    requires { ⌜ (i + 1 < left) × NodesHeld mostNodes (now xs) (now ys) × NodeList mostNodes mostNodes (now working) left × Bounds (pointIn (now xs) (now ys)) (now working) left (now lows) ⌝ }
     ensures { λ r. ⌜ (closestTo (pointIn (now (xs .entry)) (now (ys .entry)) (getD (now (working .entry)) i 0)) i (drop (i + 1) (map (pointIn (now (xs .entry)) (now (ys .entry))) (take left (now (working .entry))))) (i + 1) (between (best .from) (best .to) (best .squared)) ≡ between (r .from) (r .to) (r .squared)) × Bounds (pointIn (now (xs .entry)) (now (ys .entry))) (now (working .entry)) left (now (lows .exit)) ⌝ }
 {
     let low = lows[i];
@@ -146,7 +147,7 @@ fn look_at(
     left: usize,
     i: usize,
 ) -> u64
-    requires { ⌜ (i + 1 < left) × NodesHeld mostNodes (now xs) (now ys) × AreNodes mostNodes (now working) left × Bounds (pointIn (now xs) (now ys)) (now working) left (now lows) ⌝ }
+    requires { ⌜ (i + 1 < left) × NodesHeld mostNodes (now xs) (now ys) × NodeList mostNodes mostNodes (now working) left × Bounds (pointIn (now xs) (now ys)) (now working) left (now lows) ⌝ }
     ensures { λ r. ⌜ AtMost (closest (map (pointIn (now (xs .entry)) (now (ys .entry))) (take left (now (working .entry)))) 0 nothing) r × (r ≤ 2 ^ 49) × Bounds (pointIn (now (xs .entry)) (now (ys .entry))) (now (working .entry)) left (now (lows .exit)) ⌝ }
 {
     let row = scan_row(xs, ys, working, left, i);
@@ -164,7 +165,7 @@ fn least_distance(
     lows: &mut [u64; MOST_NODES],
     left: usize,
 ) -> u64
-    requires { ⌜ (2 ≤ left) × NodesHeld mostNodes (now xs) (now ys) × AreNodes mostNodes (now working) left × Bounds (pointIn (now xs) (now ys)) (now working) left (now lows) ⌝ }
+    requires { ⌜ (2 ≤ left) × NodesHeld mostNodes (now xs) (now ys) × NodeList mostNodes mostNodes (now working) left × Bounds (pointIn (now xs) (now ys)) (now working) left (now lows) ⌝ }
     ensures { λ r. ⌜ AtMost (closest (map (pointIn (now (xs .entry)) (now (ys .entry))) (take left (now (working .entry)))) 0 nothing) r × (r ≤ 2 ^ 49) × Bounds (pointIn (now (xs .entry)) (now (ys .entry))) (now (working .entry)) left (now (lows .exit)) ⌝ }
 {
     let mut i = least_row(lows, left);
@@ -190,7 +191,7 @@ fn find_closest(
     lows: &mut [u64; MOST_NODES],
     left: usize,
 ) -> Nearest
-    requires { ⌜ (2 ≤ left) × NodesHeld mostNodes (now xs) (now ys) × AreNodes mostNodes (now working) left × Bounds (pointIn (now xs) (now ys)) (now working) left (now lows) ⌝ }
+    requires { ⌜ (2 ≤ left) × NodesHeld mostNodes (now xs) (now ys) × NodeList mostNodes mostNodes (now working) left × Bounds (pointIn (now xs) (now ys)) (now working) left (now lows) ⌝ }
     ensures { λ r. ⌜ (closest (map (pointIn (now (xs .entry)) (now (ys .entry))) (take left (now (working .entry)))) 0 nothing ≡ between (r .from) (r .to) (r .squared)) × (r .from < r .to) × (r .to < left) × Bounds (pointIn (now (xs .entry)) (now (ys .entry))) (now (working .entry)) left (now (lows .exit)) ⌝ }
 {
     let least = least_distance(xs, ys, working, lows, left);
@@ -234,7 +235,7 @@ fn pair_nearest(
     left: usize,
     count: usize,
 )
-    requires { ⌜ (2 < left) × (count < mostPairs) × NodesHeld mostNodes (now xs) (now ys) × AreNodes mostNodes (now working) left × Bounds (pointIn (now xs) (now ys)) (now working) left (now lows) ⌝ }
+    requires { ⌜ (2 < left) × (count < mostPairs) × NodesHeld mostNodes (now xs) (now ys) × NodeList mostNodes mostNodes (now working) left × Bounds (pointIn (now xs) (now ys)) (now working) left (now lows) ⌝ }
     ensures { λ _. ⌜ Bounds (pointIn (now (xs .entry)) (now (ys .entry))) (now (working .exit)) (left - 2) (now (lows .exit)) × Round (pointIn (now (xs .entry)) (now (ys .entry))) left count (now (working .entry)) (now (working .exit)) (now (firsts .entry)) (now (firsts .exit)) (now (seconds .entry)) (now (seconds .exit)) ⌝ }
 {
     let near = find_closest(xs, ys, working, lows, left);
@@ -257,7 +258,7 @@ pub fn greedy_pairs(
     firsts: &mut [u16; MOST_PAIRS],
     seconds: &mut [u16; MOST_PAIRS],
 ) -> usize
-    requires { ⌜ NodesHeld n (now xs) (now ys) × AreNodes n (now odd) count × PairRoom (now firsts) (now seconds) ⌝ }
+    requires { ⌜ NodesHeld n (now xs) (now ys) × NodeList n mostNodes (now odd) count × PairRoom (now firsts) (now seconds) ⌝ }
     ensures { λ r. ⌜ pairsIn (now (firsts .exit)) (now (seconds .exit)) 0 r ≡ greedyPairs count (nodesIn n (now (xs .entry)) (now (ys .entry))) (take count (now (odd .entry))) ⌝ }
 {
     let mut lows = [0u64; MOST_NODES];

@@ -5,12 +5,15 @@ use Prim.Native.Nat.{ℕ, _%_, _≤_, _<_}
 use native.Mathlib.Omega.{arith}
 use lib.ListN.{length, take}
 use lib.Ieee.{Float}
+use Rattle.limits.specs.Limits.{mostNodes}
 use Rattle.graph_spec.specs.Odd.{oddNodes}
 use Rattle.graph_spec.proofs.Handshake.{handshake}
 use Rattle.graph_adjacency.specs.Lists.{Adjacency}
 use Rattle.graph_odd.proofs.Listed.{odd-few}
-use Rattle.graph_arrays.specs.Arrays.{nodesIn, edgesIn, EdgesHeld, AreNodes, Front}
-use Rattle.graph_arrays.proofs.Arrays.{front-at, front-nodes}
+use Rattle.graph_arrays.specs.Arrays.{nodesIn, edgesIn, EdgesHeld, Front}
+use Rattle.graph_arrays.specs.NodeList.{NodeList}
+use Rattle.graph_arrays.proofs.Arrays.{front-at}
+use Rattle.graph_arrays.proofs.NodeList.{front-nodes}
 use Rattle.repair_spec.specs.Pairing.{optimalPairs, greedyPairs}
 use Rattle.repair_spec.specs.Repair.{rows, distanceIn}
 use Rattle.repair_spec.proofs.Repaired.{odd-at}
@@ -22,8 +25,8 @@ use Rattle.repair_distances.specs.Rows.{Rows}
 use Rattle.repair_distances.proofs.Known.{table-known}
 
 module _ (n m : ℕ) (a : Adjacency) (E : EdgesHeld n m a) (odd : List ℕ) (count : ℕ) (F : Front (oddNodes n (edgesIn m a)) odd count) where
-  pub odd-nodes : AreNodes n odd count
-  odd-nodes = front-nodes (oddNodes n (edgesIn m a)) odd count F n (omega (arith, odd-few (edgesIn m a) n, E .edges .few-nodes)) (odd-at n (edgesIn m a))
+  pub odd-nodes : NodeList n mostNodes odd count
+  odd-nodes = front-nodes (oddNodes n (edgesIn m a)) odd count F n mostNodes (omega (arith, odd-few (edgesIn m a) n, E .edges .few-nodes)) (odd-at n (edgesIn m a))
 
   -- more than two are four or more
   pub odd-four : 2 < count → (4 ≤ count) × (count % 2 ≡ 0)

@@ -1,7 +1,7 @@
 -- `repair_distances::fill_row` meets its contract.
 use native.Mathlib.Omega.{arith}
 use Rattle.graph_adjacency.specs.Lists.{adjacency}
-use Rattle.graph_arrays.proofs.Arrays.{nodes-most}
+use Rattle.graph_arrays.proofs.NodeList.{nodes-most}
 use Rattle.repair_distances.proofs.Rows.{row-is}
 use borrow.Author.Needs.{needs}
 use Rattle.repair_distances.proofs.fill_row.Statement.{statement}
@@ -20,7 +20,7 @@ search-from-requires : tie.Need-search-from-requires
 search-from-requires c κs =
     let w = c .before .before .before in
     let b = w .before .before .before in
-    ((omega (arith, b .pre .1 .1 .0 .below (b .args .i) (b .pre .1 .1 .1), w .wide .ensures), b .pre .0), b .pre .1 .0)
+    ((omega (arith, b .pre .1 .1 .0 .nodes-in (b .args .i) (b .pre .1 .1 .1), w .wide .ensures), b .pre .0), b .pre .1 .0)
 
 row-of-requires : tie.Need-row-of-requires
 row-of-requires c κs = search needs
@@ -28,7 +28,7 @@ row-of-requires c κs = search needs
 copy-row-requires : tie.Need-copy-row-requires
 copy-row-requires c κs =
     let b = c .before .before .before .before .before .before .before .before .before .before in
-    (search needs, nodes-most _ _ _ (b .pre .1 .1 .0) (b .pre .1 .0 .edges .few-nodes))
+    (search needs, nodes-most _ _ _ _ (b .pre .1 .1 .0) (b .pre .1 .0 .edges .few-nodes))
 
 clear-requires : tie.Need-clear-requires
 clear-requires c κs = search needs
