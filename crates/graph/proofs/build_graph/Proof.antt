@@ -3,25 +3,18 @@ use Rattle.graph.proofs.Arrays.{few-lines, few-links, links-held, low-h
 use Rattle.graph.proofs.build_graph.Statement.{statement}
 use Rattle.graph.proofs.build_graph.Tie as tie
 
-abbrev start : tie.After-file-held → tie.Start
-start c = c .before .before .before .before .before .before .before .before
-
 file-held-requires : tie.Need-file-held-requires
-file-held-requires c κs = let S = c .before .before .before .before .before .before .before .pre .1 .1 in (few-links _ S, links-held _ S)
+file-held-requires c κs = let S = c .before .before .before .before .before .before .before .before .before .pre .1 .1 in (few-links _ S, links-held _ S)
 
 trace-filed-requires : tie.Need-trace-filed-requires
 trace-filed-requires c κs =
-    let f = c .before .before .before .before .before .before .before .before .before .before .before .before .before .before .before .before in
-    let p = start f .pre in
+    let p = c .before .before .before .before .before .before .before .before .before .before .before .before .before .before .before .before .before .before .before .before .before .before .before .before .before .pre in
     let S = p .1 .1 in
-    let e = f .file-held .ensures in
+    let e = c .before .before .before .before .before .before .before .before .before .before .before .before .before .before .before .file-held .ensures in
     ((few-lines _ S, few-links _ S), (starts-held _ S, (low-held _ S _ _ _ _ e _ _ (p .0) (p .1 .0), ready-held _ S _ _ _ _ e _ _ (p .0) (p .1 .0))))
 
 returns : tie.Need-returns
-returns c =
-    let f = c .before .before .before .before .before .before .before .before .before .before .before .before .before .before .before .before .before in
-    let p = start f .pre in
-    built-held _ (p .1 .1) _ _ _ _ (f .file-held .ensures) _ _ (p .0) (p .1 .0) _ (c .trace-filed .ensures)
+returns c = let p = c .before .before .before .before .before .before .before .before .before .before .before .before .before .before .before .before .before .before .before .before .before .before .before .before .before .before .pre in built-held _ (p .1 .1) _ _ _ _ (c .before .before .before .before .before .before .before .before .before .before .before .before .before .before .before .before .file-held .ensures) _ _ (p .0) (p .1 .0) _ (c .trace-filed .ensures)
 
 pub build-graph-spec : {M : Type 1} → statement M
 build-graph-spec = tie.close (tie.spec file-held-requires trace-filed-requires returns)
