@@ -1,6 +1,7 @@
 //! Times the published planner and the proved one on the same drawings, in one process.
 
 use crate::{counts, library_hypot, machine_root, next_drawing, port, Lent};
+use std::cell::RefCell;
 use std::hint::black_box;
 
 #[repr(C)]
@@ -23,11 +24,13 @@ fn now() -> f64 {
 }
 
 const ROUNDS: usize = 9;
+/// Differences of times stray more than times.
+const PHASE_ROUNDS: usize = 41;
 /// What a round takes at least, unless a single call takes longer.
 const ROUND: f64 = 4e6;
 
 /// Nanoseconds a call of each, the least of several rounds in which they take turns.
-fn times(calls: &mut [Box<dyn FnMut() + '_>]) -> Vec<f64> {
+fn times(rounds: usize, calls: &mut [Box<dyn FnMut() + '_>]) -> Vec<f64> {
     let spent = |call: &mut dyn FnMut(), count: usize| {
         let start = now();
         for _ in 0..count {
@@ -46,7 +49,7 @@ fn times(calls: &mut [Box<dyn FnMut() + '_>]) -> Vec<f64> {
         })
         .collect();
     let mut least = vec![f64::INFINITY; calls.len()];
-    for round in 0..ROUNDS {
+    for round in 0..rounds {
         for (i, call) in calls.iter_mut().enumerate() {
             // Calls that take a good part of a second are made a few times only.
             if round < 3 || least[i] < 25.0 * ROUND {
@@ -70,7 +73,7 @@ pub fn run(what: &str) {
 fn whole() {
     while let Some((lent, file)) = next_drawing() {
         let mut memory = Memory::new(lent);
-        let found = times(&mut [
+        let found = times(ROUNDS, &mut [
             Box::new(|| drop(black_box(memory.plan(black_box(&file))))),
             Box::new(|| drop(black_box(library_hypot::plan(black_box(&file), lent)))),
             Box::new(|| drop(black_box(machine_root::plan(black_box(&file), lent)))),
@@ -80,14 +83,16 @@ fn whole() {
 }
 
 /// One line for each drawing: nanoseconds of each phase of the published planner, with the C library's `hypot`, then
-/// with the machine's root; then of the port if its phases are linked in.
+/// with the machine's root; then of the port, and of all of it, if its phases are linked in.
 fn phases() {
     while let Some((lent, file)) = next_drawing() {
-        let mut memory = Memory::new(lent);
+        let memory = RefCell::new(Memory::new(lent));
         let rust = [library_hypot::phase_ends, machine_root::phase_ends].map(|ends| least_phases(|| ends(black_box(&file), now)));
-        let port = times(&mut port_phases(&file, &mut memory));
-        // The port's go from the start.
-        let port: Vec<f64> = port.iter().scan(0.0, |before, &end| Some(end - std::mem::replace(before, end))).collect();
+        let mut port = times(PHASE_ROUNDS, &mut port_phases(&file, &memory));
+        // The port's go from the start; the last is the whole planner.
+        for i in (1..port.len().saturating_sub(1)).rev() {
+            port[i] -= port[i - 1];
+        }
         println!("{} | {} | {} | {}", counts(&file, lent), words(&rust[0]), words(&rust[1]), words(&port));
     }
 }
@@ -97,7 +102,7 @@ fn least_phases(ends: impl Fn() -> Vec<f64>) -> Vec<f64> {
     let clock = (0..1000).map(|_| -(now() - now())).fold(f64::INFINITY, f64::min);
     let mut least: Vec<f64> = Vec::new();
     let (start, mut runs) = (now(), 0);
-    while runs < 3 || now() - start < ROUNDS as f64 * ROUND {
+    while runs < 3 || now() - start < PHASE_ROUNDS as f64 * ROUND {
         runs += 1;
         for (i, pair) in ends().windows(2).enumerate() {
             let spent = (pair[1] - pair[0] - clock).max(0.0);
@@ -133,45 +138,60 @@ impl Memory {
 }
 
 #[cfg(not(phases))]
-fn port_phases<'a>(_: &'a [u8], _: &'a mut Memory) -> Vec<Box<dyn FnMut() + 'a>> {
+fn port_phases<'a>(_: &'a [u8], _: &'a RefCell<Memory>) -> Vec<Box<dyn FnMut() + 'a>> {
     Vec::new()
 }
 
 #[cfg(phases)]
-unsafe extern "C" {
-    // Each goes from the start to the end of its phase and gives a number that depends on all it made. `searches` makes
-    // the search for each pair on the graph as it was drawn, and lays no copy.
-    fn phase_read(file: *const u8, file_len: usize) -> u64;
-    fn phase_graph(file: *const u8, file_len: usize) -> u64;
-    fn phase_odd(file: *const u8, file_len: usize) -> u64;
-    fn phase_pairs(
-        file: *const u8, file_len: usize, floats: *mut f64, floats_len: usize, bytes: *mut u8, bytes_len: usize,
-    ) -> u64;
-    fn phase_searches(
-        file: *const u8, file_len: usize, floats: *mut f64, floats_len: usize, bytes: *mut u8, bytes_len: usize,
-    ) -> u64;
-    fn phase_repair(
-        file: *const u8, file_len: usize, floats: *mut f64, floats_len: usize, bytes: *mut u8, bytes_len: usize,
-    ) -> u64;
+#[repr(C)]
+#[derive(Debug)]
+struct Phase {
+    refusal: u32,
+    first: usize,
+    second: usize,
+    total: f64,
 }
 
 #[cfg(phases)]
-fn port_phases<'a>(file: &'a [u8], memory: &'a mut Memory) -> Vec<Box<dyn FnMut() + 'a>> {
-    let (floats, floats_len) = (memory.floats.as_mut_ptr(), memory.floats.len());
-    let (bytes, bytes_len) = (memory.bytes.as_mut_ptr(), memory.bytes.len());
+unsafe extern "C" {
+    // Goes from the start to the end of the phase `last`: read, graph, odd nodes, pairs, searches, repair, line. The
+    // searches are made for each pair on the graph as it was drawn, and lay no copy.
+    fn plan_up_to(
+        file: *const u8, file_len: usize, floats: *mut f64, floats_len: usize, bytes: *mut u8, bytes_len: usize, last: u32,
+    ) -> Phase;
+}
+
+#[cfg(phases)]
+const PAIRS: u32 = 3;
+#[cfg(phases)]
+const LINE: u32 = 6;
+
+#[cfg(phases)]
+impl Memory {
+    /// Up to the end of a phase. The first three use no table, and are lent none, since all that is lent is cleared.
+    fn plan_up_to(&mut self, file: &[u8], last: u32) -> Phase {
+        let (floats, bytes): (&mut [f64], &mut [u8]) =
+            if last < PAIRS { (&mut [], &mut []) } else { (&mut self.floats, &mut self.bytes) };
+        // The pointers and lengths are those of the slices.
+        unsafe {
+            plan_up_to(file.as_ptr(), file.len(), floats.as_mut_ptr(), floats.len(), bytes.as_mut_ptr(), bytes.len(), last)
+        }
+    }
+}
+
+/// Each phase from the start to its end, and then the whole planner.
+#[cfg(phases)]
+fn port_phases<'a>(file: &'a [u8], memory: &'a RefCell<Memory>) -> Vec<Box<dyn FnMut() + 'a>> {
+    let line = memory.borrow_mut().plan_up_to(file, LINE);
+    let planned = memory.borrow_mut().plan(file);
+    let same = (line.refusal, line.first, line.total.to_bits()) == (planned.refusal, planned.points, planned.retrace.to_bits());
+    // A refusal for the output alone is none of a phase.
+    assert!(same || planned.refusal == 14, "the phases are of another planner: {line:?}");
     let mut calls: Vec<Box<dyn FnMut() + 'a>> = Vec::new();
-    // The pointers and lengths are those of the file and of the memory that is lent, and the calls are made in turn.
-    for phase in [phase_read, phase_graph, phase_odd] {
-        calls.push(Box::new(move || {
-            black_box(unsafe { phase(black_box(file).as_ptr(), file.len()) });
-        }));
+    for last in 0..=LINE {
+        calls.push(Box::new(move || drop(black_box(memory.borrow_mut().plan_up_to(black_box(file), last)))));
     }
-    for phase in [phase_pairs, phase_searches, phase_repair] {
-        calls.push(Box::new(move || {
-            black_box(unsafe { phase(black_box(file).as_ptr(), file.len(), floats, floats_len, bytes, bytes_len) });
-        }));
-    }
-    calls.push(Box::new(move || drop(black_box(memory.plan(black_box(file))))));
+    calls.push(Box::new(move || drop(black_box(memory.borrow_mut().plan(black_box(file))))));
     calls
 }
 

@@ -175,22 +175,49 @@ def print_whole(oracle, rows, most=None):
           f" {ratio(by_library[-3], by_library[-2])}; to the machine's root {by_machine[0]}, {ratio(by_machine[-3], by_machine[-1])}.")
 
 
-# The searches are those of a graph without copies, so that the retraces take what the copies add to them too. The
-# port's times are differences of calls that go from the start, and its last phase also writes the record.
+# The searches are those of a graph without copies, so that the retraces take what the copies add to them too. The port's
+# times are differences of calls that go from the start. Its pairs hold the clearing of the tables that are lent; its
+# searches are those of the pairs, and the one that closes a line is among its retraces.
 PHASES = ["read", "build_graph", "check 9, odd nodes", "pairs", "searches", "retraces", "walk to line"]
+REPAIR = slice(3, 6)
 
 
 def print_phases(oracle, rows):
     found = run(oracle, "--phases", rows)
-    for at, title in enumerate(("Rust, C library's hypot", "Rust, machine's root", "port"), 1):
-        if not found[0][at]:
-            continue
-        head(f"{title} (µs)", *PHASES)
-        for (name, *_), row in zip(rows, found):
-            # A refused drawing has fewer phases. A difference that is less than what comes before it strays is not shown.
-            cells = [micro(t) if title != "port" or t > sum(row[at][:k]) / 50 else "-" for k, t in enumerate(row[at])]
-            print("|", " | ".join([name, *cells, *[""] * (len(PHASES) - len(cells))]), "|")
+    names = [name for name, *_ in rows]
+    head("drawing", "nodes / edges / odd / repaired edges / points")
+    for name, row in zip(names, found):
+        print_row(name, [sizes(row[0])], [""])
+    print()
+    titles = "Rust, C library's hypot", "Rust, machine's root", "port"
+    for title, times in zip(titles, list(zip(*found))[1:]):
+        if not times[0]:
+            return
+        # The port has one more, the whole planner, which also writes the record.
+        columns = PHASES if title != "port" else [*PHASES, "whole"]
+        head(f"{title} (µs)", *columns)
+        for name, row in zip(names, times):
+            print_row(name, [micro(t) if title != "port" or k == 7 or seen(row, k) else "-" for k, t in enumerate(row)], columns)
         print()
+    for at, title in enumerate(titles[:2], 1):
+        columns = [*PHASES, "pairs, searches, retraces"]
+        head(f"port by {title}", *columns)
+        for name, row in zip(names, found):
+            rust, port = row[at], row[3]
+            cells = [ratio(p, r) if seen(port, k) and r else "-" for k, (p, r) in enumerate(zip(port, rust))]
+            cells += [""] * (len(PHASES) - len(cells))
+            print_row(name, [*cells, ratio(sum(port[REPAIR]), sum(rust[REPAIR])) if len(rust) > 5 else ""], columns)
+        print()
+
+
+def print_row(name, cells, columns):
+    """A refused drawing has fewer phases."""
+    print("|", " | ".join([name, *cells, *[""] * (len(columns) - len(cells))]), "|")
+
+
+def seen(port, k):
+    """Whether the difference is more than what comes before it strays."""
+    return port[k] > sum(port[:k]) / 50
 
 
 def print_stack(oracle, rows):

@@ -1,11 +1,12 @@
--- What the settings' bytes mean, and the order of conditions 1 to 8, worked out.
+-- What the settings' bytes mean, the order of conditions 1 to 8, and check 7, worked out.
 use Prim.Native.Nat.{ℕ}
 use mathlib.Core.Path.{_≡_, refl}
-use mathlib.Core.List.{List, [], _∷_, map}
-use mathlib.Core.Bool.{true, false}
+use mathlib.Core.List.{List, [], _∷_, _++_, map}
+use mathlib.Core.Bool.{Bool, true, false}
+use lib.ListN.{replicate}
 use Rattle.drawing_spec.specs.Drawing.{Settings, optimal, closing, inside}
 use Rattle.drawing_spec.specs.Refusal.{condition, refused, accepted, verdict, numberOf}
-use Rattle.drawing_spec.specs.Read.{readConditions}
+use Rattle.drawing_spec.specs.Read.{coordinatesFit, readConditions}
 
 abbrev settings : ℕ → ℕ → Settings
 settings pairing flags = record { width = 10; height = 10; pairing = pairing; flags = flags }
@@ -30,3 +31,14 @@ first-holds = refl
 in-order : (file : List ℕ) → map numberOf (readConditions file) ≡ 1 ∷ 2 ∷ 3 ∷ 4 ∷ 5 ∷ 6 ∷ 7 ∷ 8 ∷ []
 unfolding readConditions
 in-order file = refl
+
+-- Check 7, with a coordinate of 0 and one of 2 ^ -1074, which is off the grid: it is seen at the end of a line, and as the last of a link's four.
+abbrev tiny : List ℕ
+tiny = 1 ∷ replicate 7 0
+
+abbrev fits : ℕ → List ℕ → Bool
+fits kind body = coordinatesFit (record { kind = kind; body = body } ∷ [])
+
+grid-tested : fits 2 (replicate 16 0) ∷ fits 2 (replicate 8 0 ++ tiny) ∷ fits 3 (replicate 40 0) ∷ fits 3 (replicate 32 0 ++ tiny) ∷ [] ≡ true ∷ false ∷ true ∷ false ∷ []
+unfolding coordinatesFit
+grid-tested = refl

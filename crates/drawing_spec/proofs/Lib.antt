@@ -2,6 +2,5 @@
 pub mod Accepted
 pub mod Back
 pub mod Examples
-pub mod Members
 pub mod OnGrid
 pub mod Same

@@ -1,18 +1,19 @@
 -- Laws of specs/OnGrid.
-use mathlib.Core.Path.{_≡_, refl}
+use mathlib.Core.Path.{_≡_, refl, ap}
 use mathlib.Core.List.{List}
 use mathlib.Core.Bool.{Bool, true, false, true≢false, cond}
 use Prim.Native.Nat.{ℕ, zero, suc, _+_, _-_, _*_, _/_, _^_, _≤_, zero-le}
 use native.Mathlib.Omega.{arith}
 use lib.ListN.{length, drop}
 use lib.Ieee.{Float, nan, inf, fin, up, down, binary64, ofBits}
-use Rattle.grid.specs.Grid.{origin, originOfGrid, gridExponent, placeOnGrid, readOnGrid, readPlace}
+use Rattle.grid.specs.Grid.{origin, originOfGrid, gridExponent, placeOnGrid, placeOf, readOnGrid, readPlace, coordinate}
 use Rattle.grid.proofs.Same.{passed}
+use Rattle.grid.proofs.Back.{place-coordinate}
 use Rattle.grid.specs.declared.Place.{Place}
 use Rattle.grid.specs.declared.Place.the-variants.{On, Off}
 use Rattle.drawing_spec.specs.Bytes.{number}
-use Rattle.drawing_spec.specs.Members.{All}
-use Rattle.drawing_spec.proofs.Members.{all-map, in-all}
+use Rattle.lists.specs.Members.{All}
+use Rattle.lists.proofs.Members.{all-map, in-all}
 use Rattle.drawing_spec.specs.Read.{Record, placeAt, points, point, lineOf, linkOf, bodies, drawingOf}
 use Rattle.drawing_spec.specs.OnGrid.{AtEnds, OnGrid}
 
@@ -28,13 +29,17 @@ place-below g (fin s m x) p e = let is = passed (originOfGrid g) s (m * up x * 2
     go true i n = omega arith
     go false i n = omega arith
 
-read-below : (b : ℕ) → placeAt (readPlace b) ≤ 2 * origin
+pub read-below : (b : ℕ) → placeAt (readPlace b) ≤ 2 * origin
 unfolding readOnGrid
 read-below b = go (readPlace b) refl
   where
     go : (x : Place) → readPlace b ≡ x → placeAt x ≤ 2 * origin
     go (On p) e = place-below gridExponent (ofBits binary64 b) p e
     go Off e = zero-le
+
+-- and the coordinate at a place is read as that place
+pub place-back : (p : ℕ) → p ≤ 2 * origin → placeAt (placeOf (coordinate p)) ≡ p
+place-back p h = ap placeAt (place-coordinate p h)
 
 points-on : (n : ℕ) (bs : List ℕ) → All OnGrid (points n bs)
 unfolding points

@@ -4,7 +4,7 @@ use Prim.Native.Nat.{_≤_}
 use lib.ListN.{length}
 use Rattle.limits.specs.Limits.{mostLines, mostPoints, mostLinks}
 use Rattle.drawing_spec.specs.Drawing.{Point, Drawing}
-use Rattle.drawing_spec.specs.Members.{All}
+use Rattle.lists.specs.Members.{All}
 use Rattle.drawing_spec.specs.OnGrid.{OnGrid, AtEnds}
 use Rattle.drawing_spec.specs.Read.{points, total}
 

@@ -7,7 +7,6 @@ pub mod Drawing
 pub mod Refusal
 -- from a file's bytes to its drawing, and checks 1 to 8:
 pub mod Read
--- Predicates that contracts and laws name: of the elements of a list, of points on the grid, of what the checks leave:
-pub mod Members
+-- Predicates that contracts and laws name: of points on the grid, of what the checks leave:
 pub mod OnGrid
 pub mod Accepted

@@ -4,7 +4,7 @@ use file::Verdict;
 use file_drawing::Drawing;
 use file_records::MstEdge;
 use file_records::Point;
-ghost use Prim.Native.Nat.{_≤_};
+ghost use Prim.Native.Nat.{_≤_, _<_};
 
 // Room for a drawing file of 65,537 bytes.
 const ROOM: usize = 65_600;
@@ -85,22 +85,34 @@ fn wide(place: u32) -> u64 {
     place as u64
 }
 
-fn mixed_starts(starts: &[u16; 257], sum: u64) -> u64 {
-    let mut total = sum;
-    let mut i = 0;
-    while i < 257 {
-        let start = widen::wide(starts[i]);
-        total = mixed(total, start as u64);
-        i += 1;
+// What a drawing's arrays have at a place: its starts, and behind them its xs and its ys.
+fn entry(starts: &[u16; 257], xs: &[u32; 1024], ys: &[u32; 1024], i: usize) -> u64
+    requires { ⌜ i < 2305 ⌝ }
+{
+    if i < 257 {
+        return widen::wide(starts[i]) as u64;
     }
-    total
+    if i < 1281 {
+        return wide(xs[i - 257]);
+    }
+    wide(ys[i - 1281])
 }
 
-fn mixed_places(places: &[u32; 1024], sum: u64) -> u64 {
+// All that stands there from one place on and in front of another, mixed into a sum.
+fn mixed_entries(
+    starts: &[u16; 257],
+    xs: &[u32; 1024],
+    ys: &[u32; 1024],
+    from: usize,
+    end: usize,
+    sum: u64,
+) -> u64
+    requires { ⌜ (from ≤ end) × (end ≤ 2305) ⌝ }
+{
     let mut total = sum;
-    let mut i = 0;
-    while i < 1024 {
-        total = mixed(total, wide(places[i]));
+    let mut i = from;
+    while i < end {
+        total = mixed(total, entry(starts, xs, ys, i));
         i += 1;
     }
     total
@@ -117,10 +129,9 @@ fn checksum(d: Drawing) -> u64 {
     let sum = mixed(sum, settings.pairing as u64);
     let sum = mixed(sum, settings.flags as u64);
     let sum = mixed(sum, d.lines as u64);
-    let sum = mixed_starts(&starts, sum);
+    let sum = mixed_entries(&starts, &xs, &ys, 0, 257, sum);
     let sum = mixed(sum, d.points as u64);
-    let sum = mixed_places(&xs, sum);
-    let sum = mixed_places(&ys, sum);
+    let sum = mixed_entries(&starts, &xs, &ys, 257, 2305, sum);
     mixed(sum, d.link_count as u64)
 }
 
@@ -206,10 +217,8 @@ fn refusal(v: Verdict) -> u64 {
 }
 
 // Whether a file is read as the data says at a place.
-fn right(data: &[u8], at: usize, file: [u8; 65600], len: usize) -> bool
-    requires { ⌜ len ≤ 65600 ⌝ }
-{
-    let reading = file::read(&file[..len]);
+fn right(data: &[u8], at: usize, file: &[u8]) -> bool {
+    let reading = file::read(file);
     let verdict = reading.verdict;
     if refusal(verdict) != number(data, at, 0, 1) {
         return false;
@@ -224,6 +233,13 @@ fn right(data: &[u8], at: usize, file: [u8; 65600], len: usize) -> bool
     }
     let edges = drawing.links;
     edges_right(data, test_data::past(at, 7), count, edges)
+}
+
+// The same for the front of an array.
+fn front_right(data: &[u8], at: usize, file: [u8; 65600], len: usize) -> bool
+    requires { ⌜ len ≤ 65600 ⌝ }
+{
+    right(data, at, &file[..len])
 }
 
 // Where the next case starts, and 1 where this one came out otherwise.
@@ -241,7 +257,7 @@ fn run(data: &[u8], at: usize) -> Step
     let answer = built.next;
     let links = (number(data, answer, 5, 2) % 65536) as usize;
     let next = test_data::past(answer, 7 + 24 * links);
-    if right(data, answer, file, len) {
+    if front_right(data, answer, file, len) {
         return Step { next, wrong: 0 };
     }
     Step { next, wrong: 1 }

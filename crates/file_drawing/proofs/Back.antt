@@ -1,42 +1,23 @@
 -- Laws of specs/Back.
-use Prim.Native.Nat.{ℕ, suc, _+_, _-_, _*_, _^_, _≤_}
-use native.Mathlib.Nat.{add-zero}
-use native.Mathlib.Numerals.{add-one}
+use Prim.Native.Nat.{ℕ, suc, _+_, _-_}
 use native.Mathlib.Omega.{arith}
-use mathlib.Core.Path.{_≡_, refl, sym, ap, _∙_, subst}
+use mathlib.Core.Path.{_≡_, refl, sym, ap, _∙_}
 use mathlib.Core.List.{List, [], _∷_, _++_, map, map-append, append-assoc}
-use mathlib.Core.Bool.{Bool, true, false, cond}
 use lib.ListN.{length, getD, drop, replicate, length-map}
-use lib.Seq.{getD-drop, drop-drop, drop-at}
-use lib.Dec.{T}
-use lib.Ieee.{Float, nan, inf, fin, up, down, binary64, fits, ofBits}
-use lib.Ieee.Fits.{round-fits}
-use lib.Ieee.Bits.{ofBits-toBits}
+use lib.Seq.{drop-drop, drop-at}
 use Rattle.limits.specs.Limits.{mostLines, mostPoints, mostLinks}
-use Rattle.grid.specs.Grid.{gridExponent, origin, placeOfSteps, placeOnGrid, placeOf, readPlace, coordinate, writePlace}
-use Rattle.grid.proofs.Same.{passed}
-use Rattle.grid.proofs.Back.{read-is, write-is, coordinate-is, read-write}
-use Rattle.grid.specs.declared.Place.{Place}
-use Rattle.grid.specs.declared.Place.the-variants.{On, Off}
+use Rattle.lists.proofs.Parts.{at-front, behind-front}
 use Rattle.drawing_spec.specs.Bytes.{number}
 use Rattle.drawing_spec.specs.Drawing as drawn
-use Rattle.drawing_spec.specs.Read.{Record, placeAt, point, points, settingsOf, lineOf, linkOf, bodies, drawingOf}
+use Rattle.drawing_spec.specs.Read.{Record, point, points, settingsOf, lineOf, linkOf, bodies, drawingOf}
+use Rattle.drawing_spec.proofs.OnGrid.{read-below, place-back}
 use Rattle.file_records.specs.Body.{edgeFrom}
 use Rattle.file_records.specs.declared.MstEdge.{MstEdge}
 use Rattle.file_drawing.specs.Held.{noEdge, pastEnd, drawingHeld}
 use Rattle.file_drawing.specs.Stores.{padded, flat, xsOf, ysOf, endsFrom}
 use Rattle.file_drawing.specs.Back.{drawingFrom, linesBack, linkBack, linksBack, pointsBack}
 
--- ---- lists
-
-module _ {A : Type 0} (l : List A) (i : ℕ) (v d : A) (rest : List A) (e : drop i l ≡ v ∷ rest) where
-  at-front : getD l i d ≡ v
-  at-front = ap (λ (j : ℕ). getD l j d) (sym (add-zero i)) ∙ sym (getD-drop i l 0 d) ∙ ap (λ (m : List A). getD m 0 d) e
-
-  behind-front : drop (suc i) l ≡ rest
-  behind-front = ap (λ (j : ℕ). drop j l) (sym (add-one i)) ∙ sym (drop-drop 1 i l) ∙ ap (drop 1) e
-
-points-back : (ps : List drawn.Point) (k : ℕ) (xs ys r s : List ℕ) → drop k xs ≡ xsOf ps ++ r → drop k ys ≡ ysOf ps ++ s → pointsBack (length ps) k xs ys ≡ ps
+pub points-back : (ps : List drawn.Point) (k : ℕ) (xs ys r s : List ℕ) → drop k xs ≡ xsOf ps ++ r → drop k ys ≡ ysOf ps ++ s → pointsBack (length ps) k xs ys ≡ ps
 unfolding pointsBack
 points-back [] k xs ys r s ex ey = refl
 points-back (p ∷ ps) k xs ys r s ex ey =
@@ -45,11 +26,11 @@ points-back (p ∷ ps) k xs ys r s ex ey =
 
 -- the values of one line, and then those of the others
 module _ (g : drawn.Point → ℕ) (l : List drawn.Point) (ls : List (List drawn.Point)) (k : ℕ) (vs r : List ℕ) (e : drop k vs ≡ map g (flat (l ∷ ls)) ++ r) where
-  this-line : drop k vs ≡ map g l ++ (map g (flat ls) ++ r)
+  pub this-line : drop k vs ≡ map g l ++ (map g (flat ls) ++ r)
   unfolding flat
   this-line = e ∙ ap (λ (m : List ℕ). m ++ r) (map-append g l (flat ls)) ∙ append-assoc (map g l) (map g (flat ls)) r
 
-  other-lines : drop (k + length l) vs ≡ map g (flat ls) ++ r
+  pub other-lines : drop (k + length l) vs ≡ map g (flat ls) ++ r
   other-lines = sym (drop-drop (length l) k vs) ∙ ap (drop (length l)) this-line ∙ drop-at (map g l) (map g (flat ls) ++ r) (length l) (length-map l g)
 
 lines-back : (ls : List (List drawn.Point)) (i k : ℕ) (starts xs ys q r s : List ℕ) → drop i starts ≡ k ∷ (endsFrom k ls ++ q) → drop k xs ≡ xsOf (flat ls) ++ r → drop k ys ≡ ysOf (flat ls) ++ s → linesBack (length ls) i starts xs ys ≡ ls
@@ -69,42 +50,10 @@ lines-back (l ∷ ls) i k starts xs ys q r s es ex ey =
 
 -- ---- the floats of links
 
-float-fits : (p : ℕ) → T (fits binary64 (coordinate p))
-float-fits p = subst (λ (x : Float). T (fits binary64 x)) (sym (coordinate-is gridExponent p)) (round-fits binary64 _ _ _)
-
-place-back : (p : ℕ) → p ≤ 2 * origin → placeAt (placeOf (coordinate p)) ≡ p
-place-back p h =
-    ap placeAt
-    (ap placeOf (sym (ofBits-toBits binary64 (coordinate p) (float-fits p)))
-    ∙ ap (λ (b : ℕ). placeOf (ofBits binary64 b)) (sym (write-is gridExponent p))
-    ∙ sym (read-is gridExponent (writePlace p))
-    ∙ read-write p h)
-
--- every place that is read is in range
-steps-in-range : (o : ℕ) (s : Bool) (a c : ℕ) → placeAt (placeOfSteps o s a c) ≤ 2 * o
-steps-in-range o s a c = go (placeOfSteps o s a c) refl
-  where
-    side : (s : Bool) (n p : ℕ) → n ≤ o → p ≡ cond s (o - n) (o + n) → p ≤ 2 * o
-    side true n p h e = omega arith
-    side false n p h e = omega arith
-
-    go : (q : Place) → placeOfSteps o s a c ≡ q → placeAt q ≤ 2 * o
-    go (On p) e = let is = passed o s a c p e in side s _ p (is .near) (is .is)
-    go Off e = omega arith
-
-float-in-range : (x : Float) → placeAt (placeOnGrid gridExponent x) ≤ 2 * origin
-unfolding placeOnGrid
-float-in-range nan = omega arith
-float-in-range (inf s) = omega arith
-float-in-range (fin s m e) = steps-in-range origin s (m * up e * 2 ^ gridExponent) (down e)
-
-in-range : (b : ℕ) → placeAt (readPlace b) ≤ 2 * origin
-in-range b = rw (read-is gridExponent b) (float-in-range (ofBits binary64 b))
-
 link-back : (b : List ℕ) → linkBack (edgeFrom (linkOf b)) ≡ linkOf b
 unfolding linkOf point points
 link-back b =
-    rw (place-back _ (in-range (number 8 (drop 8 b))), place-back _ (in-range (number 8 (drop 8 (drop 8 b)))), place-back _ (in-range (number 8 (drop 24 b))), place-back _ (in-range (number 8 (drop 8 (drop 24 b)))))
+    rw (place-back _ (read-below (number 8 (drop 8 b))), place-back _ (read-below (number 8 (drop 8 (drop 8 b)))), place-back _ (read-below (number 8 (drop 24 b))), place-back _ (read-below (number 8 (drop 8 (drop 24 b)))))
 
 links-back : (bs : List (List ℕ)) (i : ℕ) (edges r : List MstEdge) → drop i edges ≡ map edgeFrom (map linkOf bs) ++ r → linksBack (length bs) i edges ≡ map linkOf bs
 unfolding linksBack

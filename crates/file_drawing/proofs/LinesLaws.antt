@@ -39,10 +39,6 @@ points-step file at n h =
     let e : n ≡ suc (n - 1) = omega arith in
     ap (λ (k : ℕ). points k (drop at file)) e ∙ rw (drop-drop 8 at file, drop-drop 16 at file)
 
-points-none : (bs : List ℕ) → points 0 bs ≡ []
-unfolding points
-points-none bs = refl
-
 pub points-long : (n : ℕ) (bs : List ℕ) → length (points n bs) ≡ n
 unfolding points
 points-long zero bs = refl

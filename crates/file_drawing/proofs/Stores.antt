@@ -1,11 +1,12 @@
 -- Laws of specs/Stores.
 use Prim.Native.Nat.{ℕ, zero, suc, _+_, _-_, _≤_}
-use native.Mathlib.Nat.{add-zero, zero-add, sub-zero, zero-sub}
+use native.Mathlib.Nat.{zero-add, sub-zero, zero-sub}
 use native.Mathlib.Omega.{arith}
 use mathlib.Core.Path.{_≡_, refl, sym, ap, _∙_}
 use mathlib.Core.List.{List, [], _∷_, _++_, map, map-append}
-use lib.ListN.{length, drop, set, replicate, length-append, length-replicate, length-map}
+use lib.ListN.{length, drop, replicate, length-append, length-replicate, length-map}
 use lib.Seq.{sets, sets-eq}
+use Rattle.lists.proofs.Parts.{sets-append}
 use Rattle.drawing_spec.specs.Drawing.{Point}
 use Rattle.drawing_spec.specs.Read.{total}
 use Rattle.file_drawing.specs.Stores.{endsFrom, flat, padded}
@@ -13,12 +14,6 @@ use Rattle.file_drawing.specs.Stores.{endsFrom, flat, padded}
 -- ---- laws
 
 module _ {A : Type 0} where
-  pub sets-append : (l : List A) (i : ℕ) (a b : List A) → sets l i (a ++ b) ≡ sets (sets l i a) (i + length a) b
-  sets-append l i [] b = ap (λ (k : ℕ). sets l k b) (sym (add-zero i))
-  sets-append l i (x ∷ a) b =
-      let e : suc i + length a ≡ i + suc (length a) = omega arith in
-      sets-append (set l i x) (suc i) a b ∙ ap (λ (k : ℕ). sets (sets (set l i x) (suc i) a) k b) e
-
   drop-replicate : (k n : ℕ) (z : A) → drop k (replicate n z) ≡ replicate (n - k) z
   drop-replicate zero n z = ap (λ (m : ℕ). replicate m z) (sym (sub-zero n))
   drop-replicate (suc k) zero z = ap (λ (m : ℕ). replicate m z) (sym (zero-sub (suc k)))

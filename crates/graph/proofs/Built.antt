@@ -1,15 +1,15 @@
 -- Arrays to which a drawing was traced hold its graph. Assumes nothing.
-use mathlib.Core.Path.{_≡_, sym, ap, ap₂, subst, _∙_}
+use mathlib.Core.Path.{_≡_, sym, ap, ap₂, subst}
 use mathlib.Core.List.{List}
 use Prim.Native.Nat.{ℕ, _≤_}
 use native.Mathlib.Omega.{arith}
 use lib.ListN.{length}
-use Rattle.limits.specs.Limits.{mostEdges, edgeRoom}
+use Rattle.limits.specs.Limits.{edgeRoom}
 use Rattle.drawing_spec.specs.Drawing.{Point, Drawing}
-use Rattle.drawing_spec.specs.Members.{All}
+use Rattle.lists.specs.Members.{All}
 use Rattle.drawing_spec.specs.OnGrid.{OnGrid, AtEnds}
 use Rattle.drawing_spec.specs.Accepted.{Counts}
-use Rattle.graph_spec.specs.Graph.{Edge, Graph, noPoint, buildGraph}
+use Rattle.graph_spec.specs.Graph.{Edge, noPoint, buildGraph}
 use Rattle.graph_spec.specs.Weights.{Searchable}
 use Rattle.graph_spec.proofs.Built.{built-inside, built-on}
 use Rattle.graph_counts.specs.Few.{Few}
@@ -20,8 +20,9 @@ use Rattle.graph_nodes.specs.Held.{Held}
 use Rattle.graph_nodes.proofs.Points.{held-point}
 use Rattle.graph_adjacency.specs.Lists.{Adjacency, lists}
 use Rattle.graph_arrays.specs.Arrays.{pointIn, nodesIn, edgesIn, EdgesHeld, NodesHeld}
-use Rattle.graph_arrays.proofs.Tabulate.{tabulate-is}
-use Rattle.graph_arrays.proofs.Arrays.{edges-are, lists-linked}
+use Rattle.lists.proofs.Tabulate.{tabulate-is}
+use Rattle.graph_arrays.proofs.Filled.{edges-are}
+use Rattle.graph_arrays.proofs.Arrays.{lists-linked}
 use Rattle.graph_strokes.specs.Step.{Traced, TracedTo}
 use Rattle.graph.specs.Built.{Built}
 
@@ -54,7 +55,7 @@ module _ (d : Drawing) (c : Counts d) (lines : All (All OnGrid) (d .lines)) (lin
   module _ (a : Adjacency) (is : a ≡ lists es) where
     edges-here : edgesIn (length es) a ≡ es
     unfolding ns es
-    edges-here = edges-are (length ns) es a few-edges (built-inside d) is (few .nodes)
+    edges-here = edges-are es a few-edges is
 
     edges-held : EdgesHeld (length ns) (length es) a
     unfolding ns es

@@ -4,7 +4,7 @@ use mathlib.Core.List.{List}
 use Prim.Native.Nat.{ℕ}
 use Rattle.drawing_spec.specs.Drawing as drawn
 use mathlib.Core.Bool.{true}
-use Rattle.drawing_spec.specs.Members.{All}
+use Rattle.lists.specs.Members.{All}
 use Rattle.drawing_spec.specs.OnGrid.{OnGrid, AtEnds}
 use Rattle.drawing_spec.proofs.OnGrid.{lines-on, links-on}
 use Rattle.drawing_spec.specs.Read.{linksFit, recordsOf, drawingOf}

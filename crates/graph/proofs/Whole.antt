@@ -7,8 +7,8 @@ use lib.ListN.{length, getD, replicate}
 use mathlib.Core.Bool.{true}
 use Rattle.limits.specs.Limits.{mostLines, mostPoints, mostSplits}
 use Rattle.drawing_spec.specs.Drawing.{Point, Link, Drawing}
-use Rattle.drawing_spec.specs.Members.{All}
-use Rattle.drawing_spec.proofs.Members.{all-imp}
+use Rattle.lists.specs.Members.{All}
+use Rattle.lists.proofs.Members.{all-imp}
 use Rattle.drawing_spec.specs.OnGrid.{OnGrid, AtEnds}
 use Rattle.drawing_spec.specs.Read.{linksFit}
 use Rattle.drawing_spec.specs.Accepted.{Counts}

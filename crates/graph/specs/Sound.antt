@@ -2,7 +2,7 @@
 use mathlib.Core.Path.{_≡_}
 use Rattle.drawing_spec.specs.Drawing as drawn
 use mathlib.Core.Bool.{true}
-use Rattle.drawing_spec.specs.Members.{All}
+use Rattle.lists.specs.Members.{All}
 use Rattle.drawing_spec.specs.OnGrid.{OnGrid, AtEnds}
 use Rattle.drawing_spec.proofs.OnGrid.{lines-on, links-on}
 use Rattle.drawing_spec.specs.Read.{linksFit}

@@ -1,7 +1,7 @@
 -- The edges of a graph in flat lists, and what is read of them.
 use Prim.Native.Nat.{ℕ, suc, _+_, _-_, _*_}
 use mathlib.Core.List.{List, [], _∷_}
-use mathlib.Core.Bool.{Bool, true, false}
+use mathlib.Core.Bool.{false, cond}
 use lib.ListN.{getD, set, replicate}
 use lib.Dec.{eqb, leb}
 use lib.IntN.{pos}
@@ -44,24 +44,20 @@ unfoldable pub lists : List Edge → Adjacency
 unfolding pushed
 lists es = pushed 0 es noEdges
 
-abbrev pub pick : Bool → ℕ → ℕ → ℕ
-pick true m n = m
-pick false m n = n
-
 -- the arc, or the one to go on with where it is none
 abbrev pub orElse : ℕ → ℕ → ℕ
-orElse k other = pick (eqb k 0) other k
+orElse k other = cond (eqb k 0) other k
 
 -- the first arc of a node, and the arc after another; 0 where there is none
 unfoldable pub firstArc : List ℕ → ℕ → ℕ
 firstArc hs v = orElse (getD hs v 0) (getD hs (v + mostNodes) 0)
 
 unfoldable pub nextArc : List ℕ → List ℕ → ℕ → ℕ → ℕ
-nextArc ns hs v k = pick (leb k edgeRoom) (getD ns (k - 1) 0) (orElse (getD ns (k - 1) 0) (getD hs (v + mostNodes) 0))
+nextArc ns hs v k = cond (leb k edgeRoom) (getD ns (k - 1) 0) (orElse (getD ns (k - 1) 0) (getD hs (v + mostNodes) 0))
 
 -- the number of an arc's edge
 unfoldable pub edgeNumber : ℕ → ℕ
-edgeNumber k = pick (leb k edgeRoom) (k - 1) (k - (edgeRoom + 1))
+edgeNumber k = cond (leb k edgeRoom) (k - 1) (k - (edgeRoom + 1))
 
 -- what is known of an arc
 unfoldable pub arcAt : Adjacency → ℕ → Arc

@@ -1,9 +1,8 @@
 -- Laws of specs/Arrays: whoever pushed edges into the arrays reads those edges of them, and following a node's list gives its edges.
-use mathlib.Core.Path.{_≡_, refl, sym, ap, subst, _∙_}
+use mathlib.Core.Path.{_≡_, sym, ap, subst, _∙_}
 use mathlib.Core.Logic.{inl, inr}
 use mathlib.Core.List.{List, [], _∷_, _++_}
 use Prim.Native.Nat.{ℕ, suc, _+_, _≤_, _<_}
-use native.Mathlib.Numerals.{add-one}
 use native.Mathlib.Omega.{arith}
 use lib.ListN.{length, getD, length-append, length-take}
 use lib.Seq.{getD-take}
@@ -12,15 +11,14 @@ use Rattle.limits.specs.Limits.{mostNodes, edgeRoom}
 use Rattle.graph_spec.specs.Graph.{Edge, edge, edgesAt}
 use Rattle.graph_spec.specs.Ways.{Inside}
 use Rattle.graph_spec.proofs.EdgesAt.{edgeAt, edgeAt-in}
-use Rattle.graph_adjacency.specs.Lists.{Adjacency, adjacency, noEdges, push, lists, firstArc}
+use Rattle.graph_adjacency.specs.Lists.{Adjacency, push, lists, firstArc}
 use Rattle.graph_adjacency.specs.Follow.{Ends, Follows}
 use Rattle.graph_adjacency.proofs.Follow.{lists-follow, lists-push}
-use Rattle.drawing_spec.specs.Members.{In}
-use Rattle.drawing_spec.proofs.Members.{in-append}
-use Rattle.graph_arrays.specs.Arrays.{edgeIn, edgesIn, EdgesLinked, AreNodes, Front}
+use Rattle.lists.proofs.Members.{in-append}
+use Rattle.graph_arrays.specs.Arrays.{edgeIn, edgesIn, EdgesLinked, Front}
 use Rattle.graph_arrays.proofs.Ends.{inside-ends}
-use Rattle.graph_arrays.proofs.Tabulate.{tabulate-length, tabulate-at}
-use Rattle.graph_arrays.proofs.Filled as filled
+use Rattle.lists.proofs.Tabulate.{tabulate-length, tabulate-at}
+use Rattle.graph_arrays.proofs.Filled.{edges-are}
 
 -- ---- reading
 
@@ -50,21 +48,13 @@ module _ (n m : ℕ) (a : Adjacency) (L : EdgesLinked n m a) where
 -- ---- filling
 
 module _ (n : ℕ) (es : List Edge) (a : Adjacency) (few : length es ≤ edgeRoom) (inside : Inside n es) (is : a ≡ lists es) (room : n ≤ mostNodes) where
-  -- arrays that hold the lists of es have es as their edges
-  pub edges-are : edgesIn (length es) a ≡ es
-  edges-are = filled.edges-are n es (a .ends) (a .weights) (a .next) (a .heads) room few inside is
-
   pub lists-linked : EdgesLinked n (length es) a
   lists-linked = record {
     few-nodes = room;
     few-edges = few;
-    linked = is ∙ ap lists (sym edges-are);
-    inside = subst (Inside n) (sym edges-are) inside;
+    linked = is ∙ ap lists (sym (edges-are es a few is));
+    inside = subst (Inside n) (sym (edges-are es a few is)) inside;
   }
-
-pub none-linked : (n : ℕ) → n ≤ mostNodes → EdgesLinked n 0 noEdges
-unfolding lists
-none-linked n h = lists-linked n [] noEdges (omega arith) (λ e i. absurd i) refl h
 
 -- one edge more
 module _ (n m u v : ℕ) (w : Float) (a a' : Adjacency) (L : EdgesLinked n m a) (room : m < edgeRoom) (hu : u < n) (hv : v < n) (is : a' ≡ push m u v w a) where
@@ -90,24 +80,15 @@ module _ (n m u v : ℕ) (w : Float) (a a' : Adjacency) (L : EdgesLinked n m a) 
 
   pub pushed-edges : edgesIn (suc m) a' ≡ edgesIn m a ++ (edge u v w ∷ [])
   unfolding es
-  pushed-edges = ap (λ (k : ℕ). edgesIn k a') (sym es-count) ∙ edges-are n es a' (omega (arith, es-count)) es-inside pushed-lists (L .few-nodes)
+  pushed-edges = ap (λ (k : ℕ). edgesIn k a') (sym es-count) ∙ edges-are es a' (omega (arith, es-count)) pushed-lists
 
   pub pushed-linked : EdgesLinked n (suc m) a'
   pushed-linked = subst (λ (k : ℕ). EdgesLinked n k a') es-count (lists-linked n es a' (omega (arith, es-count)) es-inside pushed-lists (L .few-nodes))
 
--- ---- listed nodes
-
-pub nodes-most : (n : ℕ) (array : List ℕ) (count : ℕ) → AreNodes n array count → n ≤ mostNodes → AreNodes mostNodes array count
-nodes-most n array count W h = record { few = W .few; long = W .long; below = λ i l. omega (arith, W .below i l) }
-
 -- a list of nodes at the front of an array
-module _ (n : ℕ) (vs array : List ℕ) (count : ℕ) (F : Front vs array count) where
+module _ (vs array : List ℕ) (count : ℕ) (F : Front vs array count) where
   pub front-at : (i : ℕ) → i < count → getD array i 0 ≡ getD vs i 0
   front-at i h = sym (getD-take count array i 0 h) ∙ ap (λ (l : List ℕ). getD l i 0) (F .are)
 
-  pub front-nodes : length vs ≤ mostNodes → ((i : ℕ) → i < length vs → getD vs i 0 < n) → AreNodes n array count
-  front-nodes few below = record {
-    few = omega (arith, F .counts);
-    long = omega (arith, F .counts, ap length (F .are), length-take count array);
-    below = λ i h. omega (arith, front-at i h, below i (omega (arith, F .counts)));
-  }
+  pub front-long : count ≤ length array
+  front-long = omega (arith, F .counts, ap length (F .are), length-take count array)

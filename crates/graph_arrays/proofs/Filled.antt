@@ -7,16 +7,14 @@ use native.Mathlib.Omega.{arith}
 use lib.ListN.{length, getD}
 use lib.Seq.{getD-set-same, getD-set-other}
 use lib.Ieee.{Float, nan}
-use Rattle.limits.specs.Limits.{mostNodes, edgeRoom}
+use Rattle.limits.specs.Limits.{edgeRoom}
 use Rattle.graph_spec.specs.Graph.{Edge, edge}
-use Rattle.graph_spec.specs.Ways.{Inside}
 use Rattle.graph_spec.proofs.EdgesAt.{edgeAt}
-use Rattle.graph_adjacency.specs.Lists.{Adjacency, adjacency, noEdges, push, pushed, lists}
+use Rattle.graph_adjacency.specs.Lists.{Adjacency, noEdges, push, pushed, lists}
 use Rattle.graph_adjacency.proofs.Follow.{Sized, push-sized, lists-sized}
-use Rattle.graph_spec.specs.Weights.{Weights}
 use Rattle.graph_arrays.proofs.Ends.{At, lists-at}
-use Rattle.graph_arrays.proofs.Tabulate.{tabulate-is}
-use Rattle.graph_arrays.specs.Read.{edgeIn, edgesIn, EdgesSound}
+use Rattle.lists.proofs.Tabulate.{tabulate-is}
+use Rattle.graph_arrays.specs.Arrays.{edgeIn, edgesIn}
 
 -- ---- edges
 
@@ -46,25 +44,16 @@ weight-at : (es : List Edge) → length es ≤ edgeRoom → (j : ℕ) → j < le
 unfolding lists pushed
 weight-at es b j h = ap (λ (q : ℕ). getD (pushed 0 es noEdges .weights) q nan) (sym (zero-add j)) ∙ weight-placed 0 es noEdges (lists-sized []) (omega arith) j h
 
-module _ (n : ℕ) (es : List Edge) (ends : List ℕ) (weights : List Float) (next heads : List ℕ) (room : n ≤ mostNodes) (few : length es ≤ edgeRoom) (inside : Inside n es)
-    (is : adjacency ends weights next heads ≡ lists es) where
-  ends-at : (j : ℕ) → j < length es → At j (edgeAt es j) ends
+-- arrays that hold the lists of es have es as their edges
+module _ (es : List Edge) (a : Adjacency) (few : length es ≤ edgeRoom) (is : a ≡ lists es) where
+  ends-at : (j : ℕ) → j < length es → At j (edgeAt es j) (a .ends)
   ends-at j h = subst (λ (g : Adjacency). At j (edgeAt es j) (g .ends)) (sym is) (lists-at es few j h)
 
-  edge-at : (j : ℕ) → j < length es → edgeIn ends weights j ≡ edgeAt es j
+  edge-at : (j : ℕ) → j < length es → edgeIn a j ≡ edgeAt es j
   edge-at j h =
-      ap (λ (u : ℕ). edge u (getD ends (j + edgeRoom) 0) (getD weights j nan)) (ends-at j h .0)
-      ∙ ap (λ (v : ℕ). edge (edgeAt es j .a) v (getD weights j nan)) (ends-at j h .1)
+      ap (λ (u : ℕ). edge u (getD (a .ends) (j + edgeRoom) 0) (getD (a .weights) j nan)) (ends-at j h .0)
+      ∙ ap (λ (v : ℕ). edge (edgeAt es j .a) v (getD (a .weights) j nan)) (ends-at j h .1)
       ∙ ap (λ (w : Float). edge (edgeAt es j .a) (edgeAt es j .b) w) (ap (λ (g : Adjacency). getD (g .weights) j nan) is ∙ weight-at es few j h)
 
-  pub edges-are : edgesIn (length es) ends weights ≡ es
-  edges-are = tabulate-is (edgeIn ends weights) es (edge 0 0 nan) edge-at
-
-  pub edges-sound : Weights es → EdgesSound n (length es) ends weights next heads
-  edges-sound w = record {
-    few-nodes = room;
-    few-edges = few;
-    linked = is ∙ ap lists (sym edges-are);
-    inside = subst (Inside n) (sym edges-are) inside;
-    nonneg = subst Weights (sym edges-are) w;
-  }
+  pub edges-are : edgesIn (length es) a ≡ es
+  edges-are = tabulate-is (edgeIn a) es (edge 0 0 nan) edge-at

@@ -1,7 +1,6 @@
 -- Laws of the definitions in specs/.
 pub mod Ends
 pub mod Filled
-pub mod Tabulate
 pub mod Arrays
 pub mod NodeList
 pub mod Listing

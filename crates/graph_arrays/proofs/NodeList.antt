@@ -1,17 +1,19 @@
 -- Laws of specs/NodeList, and of lists in the front of an array.
-use mathlib.Core.Path.{_≡_, sym, ap, _∙_}
+use mathlib.Core.Path.{_≡_}
 use mathlib.Core.List.{List, [], _∷_, map}
-use Prim.Native.Nat.{ℕ, zero, suc, _≤_, _<_}
+use Prim.Native.Nat.{ℕ, suc, _≤_, _<_}
 use native.Mathlib.Decide.{decLe}
 use native.Mathlib.Omega.{arith}
-use lib.ListN.{length, getD, take, length-take, List·getD-eq-default}
-use lib.Seq.{getD-take}
-use Rattle.drawing_spec.specs.Members.{All}
+use lib.ListN.{length, getD, List·getD-eq-default}
+use Rattle.limits.specs.Limits.{mostNodes}
+use Rattle.lists.specs.Members.{All}
+use Rattle.lists.proofs.Members.{all-at}
 use Rattle.drawing_spec.specs.OnGrid.{OnGrid}
 use Rattle.graph_spec.specs.Graph.{pointAt, noPoint}
 use Rattle.graph_arrays.specs.Arrays.{pointIn, nodesIn, NodesHeld, Front}
 use Rattle.graph_arrays.specs.NodeList.{NodeList}
-use Rattle.graph_arrays.proofs.Tabulate.{tabulate-length, tabulate-at}
+use Rattle.graph_arrays.proofs.Arrays.{front-at, front-long}
+use Rattle.lists.proofs.Tabulate.{tabulate-length, tabulate-at}
 
 pub nodes-count : (n : ℕ) (xs ys : List ℕ) → length (nodesIn n xs ys) ≡ n
 nodes-count n xs ys = tabulate-length (pointIn xs ys) n 0
@@ -32,22 +34,17 @@ pub points-on : (n : ℕ) (xs ys : List ℕ) → NodesHeld n xs ys → (vs : Lis
 points-on n xs ys h [] = tt
 points-on n xs ys h (v ∷ vs) = (at-on n xs ys h v, points-on n xs ys h vs)
 
--- what holds of every element holds wherever the list has one
-pub all-at : (P : ℕ → Type 0) (vs : List ℕ) → All P vs → (j : ℕ) → j < length vs → P (getD vs j 0)
-all-at P [] a j h = absurd (omega arith)
-all-at P (v ∷ vs) a zero h = a .0
-all-at P (v ∷ vs) a (suc j) h = all-at P vs (a .1) j (omega arith)
+pub nodes-most : (n room : ℕ) (array : List ℕ) (count : ℕ) → NodeList n room array count → n ≤ mostNodes → NodeList mostNodes room array count
+nodes-most n room array count W h = record { fits = W .fits; long = W .long; nodes-in = λ i l. omega (arith, W .nodes-in i l) }
 
-module _ (vs array : List ℕ) (count : ℕ) (f : Front vs array count) where
-  pub front-at : (j : ℕ) → j < count → getD array j 0 ≡ getD vs j 0
-  front-at j h = sym (getD-take count array j 0 h) ∙ ap (λ (l : List ℕ). getD l j 0) (f .are)
-
-  pub front-long : count ≤ length array
-  front-long = omega (arith, f .counts, ap length (f .are), length-take count array)
-
-  pub front-nodes : (n room : ℕ) → length vs ≤ room → All (λ (v : ℕ). v < n) vs → NodeList n room array count
-  front-nodes n room fits all = record {
-    fits = omega (arith, f .counts);
-    long = front-long;
-    nodes-in = λ j h. rw (front-at j h) (all-at (λ (v : ℕ). v < n) vs all j (omega (arith, f .counts)));
+-- a list of nodes at the front of an array
+module _ (vs array : List ℕ) (count : ℕ) (F : Front vs array count) (n room : ℕ) (fits : length vs ≤ room) where
+  pub front-nodes : ((i : ℕ) → i < length vs → getD vs i 0 < n) → NodeList n room array count
+  front-nodes below = record {
+    fits = omega (arith, F .counts);
+    long = front-long vs array count F;
+    nodes-in = λ i h. omega (arith, front-at vs array count F i h, below i (omega (arith, F .counts)));
   }
+
+  pub front-list : All (λ (v : ℕ). v < n) vs → NodeList n room array count
+  front-list all = front-nodes (λ i h. all-at (λ (v : ℕ). v < n) vs all i 0 h)

@@ -13,7 +13,7 @@ use Rattle.graph_spec.specs.Graph.{Edge, edge, Graph}
 use Rattle.graph_spec.specs.Ways.{Inside}
 use Rattle.graph_spec.specs.Weights.{Searchable}
 use Rattle.graph_adjacency.specs.Lists.{Adjacency, lists}
-use Rattle.graph_arrays.specs.Tabulate.{tabulate}
+use Rattle.lists.specs.Tabulate.{tabulate}
 
 abbrev pub pointIn : List ℕ → List ℕ → ℕ → Point
 pointIn xs ys v = record { x = getD xs v 0; y = getD ys v 0 }
@@ -55,9 +55,3 @@ pub record NodesHeld (n : ℕ) (xs ys : List ℕ) : Type 0 where
 pub record Front (vs array : List ℕ) (count : ℕ) : Type 0 where
   pub counts : count ≡ length vs
   pub are : take count array ≡ vs
-
--- The first `count` elements of an array are nodes, of n.
-pub record AreNodes (n : ℕ) (array : List ℕ) (count : ℕ) : Type 0 where
-  pub few : count ≤ mostNodes
-  pub long : count ≤ length array
-  pub below : (i : ℕ) → i < count → getD array i 0 < n

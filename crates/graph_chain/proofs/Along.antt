@@ -3,8 +3,8 @@ use mathlib.Core.Path.{_≡_, refl, subst}
 use mathlib.Core.List.{List, [], _∷_, _++_, map-append}
 use native.Mathlib.Omega.{arith}
 use Rattle.drawing_spec.specs.Drawing.{Point}
-use Rattle.drawing_spec.specs.Members.{All}
-use Rattle.drawing_spec.proofs.Members.{all-front}
+use Rattle.lists.specs.Members.{All}
+use Rattle.lists.proofs.Members.{all-front}
 use Rattle.graph_spec.specs.Graph.{Graph}
 use Rattle.graph_moves.specs.Moves.{Move, start, on, to, moved, along, Stands}
 use Rattle.graph_moves.proofs.Moves.{endOf, along-append}

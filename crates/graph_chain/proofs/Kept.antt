@@ -1,6 +1,6 @@
 -- Laws of specs/Kept.
 use mathlib.Core.Path.{_≡_, refl, sym, ap, _∙_}
-use mathlib.Core.Bool.{Bool, true, false}
+use mathlib.Core.Bool.{Bool, true, false, cond}
 use mathlib.Core.List.{List, [], _∷_}
 use Prim.Native.Nat.{ℕ, zero, suc, _+_, _-_, _≤_, _<_}
 use native.Mathlib.Omega.{arith}
@@ -8,7 +8,6 @@ use native.Mathlib.Numerals.{add-one}
 use lib.ListN.{getD}
 use Rattle.drawing_spec.specs.Drawing.{Point}
 use Rattle.graph_spec.specs.Chain.{inner, changes}
-use Rattle.graph_splits.specs.Buffer.{pick}
 use Rattle.graph_splits.specs.Next.{at, keeps, nextSplit}
 use Rattle.graph_splits.proofs.Next.{stay, gone}
 use Rattle.file_drawing.specs.Back.{pointsBack}
@@ -24,7 +23,7 @@ module _ (xs ys : List ℕ) (a b l : Point) where
   kept-after zero i = omega arith
   kept-after (suc n) i = go (keeps a b l (here i)) (kept-after n (i + 1))
     where
-      go : (t : Bool) → i + 1 ≤ nextSplit n xs ys a b l (i + 1) → i ≤ pick t i (nextSplit n xs ys a b l (i + 1))
+      go : (t : Bool) → i + 1 ≤ nextSplit n xs ys a b l (i + 1) → i ≤ cond t i (nextSplit n xs ys a b l (i + 1))
       go true h = omega arith
       go false h = omega arith
 
@@ -37,7 +36,7 @@ module _ (xs ys : List ℕ) (a b l : Point) where
   kept-none zero i h = refl
   kept-none (suc n) i h = go (keeps a b l (here i)) refl h (kept-none n (suc i))
     where
-      go : (t : Bool) → keeps a b l (here i) ≡ t → i + suc n ≤ pick t i (nextSplit n xs ys a b l (i + 1))
+      go : (t : Bool) → keeps a b l (here i) ≡ t → i + suc n ≤ cond t i (nextSplit n xs ys a b l (i + 1))
           → (suc i + n ≤ nextSplit n xs ys a b l (suc i) → keptFrom xs ys a b l n (suc i) ≡ []) → keptFrom xs ys a b l (suc n) i ≡ []
       go true e k r = absurd (omega arith)
       go false e k r =
@@ -50,7 +49,7 @@ module _ (xs ys : List ℕ) (a b l : Point) where
   kept-one zero i j e h = absurd (omega arith)
   kept-one (suc n) i j e h = go (keeps a b l (here i)) refl e (λ f. kept-one n (suc i) j f (omega arith))
     where
-      go : (t : Bool) → keeps a b l (here i) ≡ t → j ≡ pick t i (nextSplit n xs ys a b l (i + 1))
+      go : (t : Bool) → keeps a b l (here i) ≡ t → j ≡ cond t i (nextSplit n xs ys a b l (i + 1))
           → (j ≡ nextSplit n xs ys a b l (suc i) → keptFrom xs ys a b l n (suc i) ≡ here j ∷ keptFrom xs ys a b (here j) (suc i + n - (j + 1)) (j + 1))
           → keptFrom xs ys a b l (suc n) i ≡ here j ∷ keptFrom xs ys a b (here j) (i + suc n - (j + 1)) (j + 1)
       go true k f r =

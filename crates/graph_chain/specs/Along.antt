@@ -1,7 +1,7 @@
 -- The nodes and edges in flat lists along a list of moves: what the code makes of them is the graph along these moves. Assumes nothing.
 use mathlib.Core.List.{List, [], _∷_}
 use Rattle.drawing_spec.specs.Drawing.{Point}
-use Rattle.drawing_spec.specs.Members.{All}
+use Rattle.lists.specs.Members.{All}
 use Rattle.graph_spec.specs.Graph.{Graph}
 use Rattle.graph_moves.specs.Moves.{Move, start, on, to, along, Stands}
 use Rattle.graph_moves.specs.Built.{usesIn}

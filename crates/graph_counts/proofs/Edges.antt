@@ -8,7 +8,7 @@ use lib.ListN.{length, length-append, length-map}
 use lib.Dec.{eqb, leb}
 use borrow.Author.Tests.{eqb-true, eqb-false, ne-eqb}
 use Rattle.drawing_spec.specs.Drawing.{Point, same, End, Link, Drawing}
-use Rattle.drawing_spec.proofs.Members.{either}
+use Rattle.lists.proofs.Members.{either}
 use Rattle.drawing_spec.specs.Read.{total}
 use Rattle.graph_spec.specs.Chain.{squared, naming, splits, insert, sort, inner, changes, distinct, chain}
 use Rattle.graph_spec.specs.Pieces.{stroke, pieces, linePieces, piecesFrom, piecesOf, linkStrokes, linksOf, strokesOf}

@@ -15,8 +15,8 @@ use Rattle.length.specs.Root.{square, lengthOf, rootOver}
 use Rattle.length.proofs.LengthLaws.{length-mono, samples}
 use Rattle.drawing_spec.specs.Drawing.{Point, same, Drawing}
 use Rattle.drawing_spec.proofs.Same.{differ}
-use Rattle.drawing_spec.specs.Members.{In, All}
-use Rattle.drawing_spec.proofs.Members.{all-in, all-map, all-imp}
+use Rattle.lists.specs.Members.{In, All}
+use Rattle.lists.proofs.Members.{all-in, all-map, all-imp}
 use Rattle.drawing_spec.specs.OnGrid.{OnGrid, AtEnds}
 use Rattle.graph_spec.specs.Chain.{squared}
 use Rattle.graph_spec.specs.Pieces.{strokesOf}

@@ -6,14 +6,14 @@ use Prim.Native.Nat.{ℕ, suc, _+_, _-_, _*_, _≤_, _<_, suc-le-suc}
 use native.Mathlib.Omega.{arith}
 use lib.ListN.{length, length-append}
 use Rattle.drawing_spec.specs.Drawing.{Point, End, Link, Drawing}
-use Rattle.drawing_spec.specs.Members.{In, All}
-use Rattle.drawing_spec.proofs.Members.{all-in, in-all, in-left}
+use Rattle.lists.specs.Members.{In, All}
+use Rattle.lists.proofs.Members.{all-in, in-all, in-left, in-right}
 use Rattle.drawing_spec.specs.Read.{total, recordsOf, drawingOf, readConditions}
 use Rattle.drawing_spec.specs.Accepted.{Counts}
 use Rattle.drawing_spec.proofs.Accepted.{counts-fit, accepted-fits}
 use Rattle.drawing_spec.specs.Refusal.{accepted, verdict}
 use Rattle.drawing_spec.specs.OnGrid.{AtEnds}
-use Rattle.graph_spec.specs.Pieces.{usesOf}
+use Rattle.graph_spec.specs.Pieces.{usesOf, linkUses}
 use Rattle.graph_spec.specs.Graph.{pointAt, buildGraph}
 use Rattle.graph_spec.proofs.Nodes.{distinct, uses-all}
 use Rattle.graph_spec.proofs.Strokes.{uses-of-all}
@@ -68,19 +68,15 @@ apart-places (p ∷ ps) h = (
 
 -- ---- the points of the lines and of the ends of the links
 
-unfoldable pub endPoints : List Link → List Point
-endPoints [] = []
-endPoints (k ∷ ks) = k .first .point ∷ k .second .point ∷ endPoints ks
-
 unfoldable pub linePoints : List (List Point) → List Point
 linePoints [] = []
 linePoints (l ∷ ls) = l ++ linePoints ls
 
 abbrev pub drawnPoints : Drawing → List Point
-drawnPoints d = linePoints (d .lines) ++ endPoints (d .links)
+drawnPoints d = linePoints (d .lines) ++ linkUses (d .links)
 
-ends-length : (ks : List Link) → length (endPoints ks) ≡ 2 * length ks
-unfolding endPoints
+ends-length : (ks : List Link) → length (linkUses ks) ≡ 2 * length ks
+unfolding linkUses
 ends-length [] = refl
 ends-length (k ∷ ks) = omega (arith, ends-length ks)
 
@@ -89,18 +85,14 @@ unfolding linePoints total
 lines-length [] = refl
 lines-length (l ∷ ls) = omega (arith, length-append l (linePoints ls), lines-length ls)
 
-in-right : (p : Point) (ps qs : List Point) → In p qs → In p (ps ++ qs)
-in-right p [] qs i = i
-in-right p (x ∷ ps) qs i = inr (in-right p ps qs i)
-
 module _ (ps : List Point) where
   lines-in : (ls : List (List Point)) → ((p : Point) → In p (linePoints ls) → In p ps) → All (All (λ (p : Point). In p ps)) ls
   unfolding linePoints
   lines-in [] h = tt
   lines-in (l ∷ ls) h = (in-all (λ (p : Point). In p ps) l (λ p i. h p (in-left p l (linePoints ls) i)), lines-in ls (λ p i. h p (in-right p l (linePoints ls) i)))
 
-  ends-in : (ks : List Link) → ((p : Point) → In p (endPoints ks) → In p ps) → All (AtEnds (λ (p : Point). In p ps)) ks
-  unfolding endPoints
+  ends-in : (ks : List Link) → ((p : Point) → In p (linkUses ks) → In p ps) → All (AtEnds (λ (p : Point). In p ps)) ks
+  unfolding linkUses
   ends-in [] h = tt
   ends-in (k ∷ ks) h = ((h (k .first .point) (inl refl), h (k .second .point) (inr (inl refl))), ends-in ks (λ p i. h p (inr (inr i))))
 
@@ -109,7 +101,7 @@ unfolding buildGraph
 nodes-in d =
     let P : Point → Type 0 = λ p. In p (drawnPoints d) in
     uses-all P [] (usesOf d) tt
-    (uses-of-all P d (lines-in (drawnPoints d) (d .lines) (λ p i. in-left p (linePoints (d .lines)) (endPoints (d .links)) i)) (ends-in (drawnPoints d) (d .links) (λ p i. in-right p (linePoints (d .lines)) (endPoints (d .links)) i)))
+    (uses-of-all P d (lines-in (drawnPoints d) (d .lines) (λ p i. in-left p (linePoints (d .lines)) (linkUses (d .links)) i)) (ends-in (drawnPoints d) (d .links) (λ p i. in-right p (linePoints (d .lines)) (linkUses (d .links)) i)))
 
 -- of p points and k links
 pub nodes-few : (d : Drawing) → length (buildGraph d .nodes) ≤ pointsOf d + 2 * length (d .links)
@@ -118,7 +110,7 @@ nodes-few d =
     omega (
       arith,
       apart-few ns (drawnPoints d) (apart-places ns (distinct ns (built-numbered d))) (all-in (λ (p : Point). In p (drawnPoints d)) ns (nodes-in d)),
-      length-append (linePoints (d .lines)) (endPoints (d .links)),
+      length-append (linePoints (d .lines)) (linkUses (d .links)),
       lines-length (d .lines),
       ends-length (d .links),
     )

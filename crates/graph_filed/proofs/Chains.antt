@@ -8,19 +8,20 @@ use lib.ListN.{length, getD, drop, replicate, length-map}
 use lib.Dec.{eqb}
 use Rattle.limits.specs.Limits.{mostPoints, mostSplits}
 use Rattle.drawing_spec.specs.Drawing.{Point, End, Link}
-use Rattle.drawing_spec.specs.Members.{All}
+use Rattle.lists.proofs.Parts.{at-front, behind-front}
+use Rattle.lists.specs.Members.{All}
 use Rattle.graph_spec.specs.Chain.{sort, inner, changes, chain}
 use Rattle.graph_splits.specs.Next.{at}
 use Rattle.graph_splits.specs.Points.{Points, pointIn}
 use Rattle.graph_splits.proofs.Next.{chain-is}
 use Rattle.graph_segment_ends.proofs.Ends.{newest, Chained, chained-length, Below, filedAll, noEnds, filed-chained}
 use Rattle.graph_segment_ends.specs.Gather.{insertAll}
-use Rattle.graph_segment_ends.proofs.GatherLaws.{named, newest-sorted}
+use Rattle.graph_segment_ends.proofs.GatherLaws.{newest-sorted}
 use Rattle.graph_segment_ends.proofs.Splits.{endsOf, Filing, named-splits}
 use Rattle.graph_line.specs.Follow.{follow}
 use Rattle.graph_line.proofs.Follow.{follow-none, follow-one}
 use Rattle.graph_line.specs.Lines.{chainsOf}
-use Rattle.graph_filed.proofs.Ends.{at-front, behind-front, number, endX, endY, placesOf, filingOf}
+use Rattle.graph_filed.proofs.Ends.{number, endX, endY, placesOf, filingOf}
 
 -- ---- the list of ends that is followed
 

@@ -1,16 +1,16 @@
 -- The ends of all links, filed: the lists that the code makes, said at once. Assumes nothing.
-use mathlib.Core.Path.{_≡_, refl, sym, ap, _∙_}
+use mathlib.Core.Path.{_≡_, refl, ap, _∙_}
 use mathlib.Core.List.{List, [], _∷_, _++_, map}
 use Prim.Native.Nat.{ℕ, zero, suc, _+_, _-_, _*_, _≤_, _^_}
-use native.Mathlib.Nat.{add-zero}
 use native.Mathlib.Numerals.{add-one}
 use native.Mathlib.Omega.{arith}
 use lib.ListN.{length, getD, drop, replicate, length-map}
-use lib.Seq.{sets, getD-drop, drop-drop}
+use lib.Seq.{sets}
 use Rattle.limits.specs.Limits.{mostSplits}
+use Rattle.lists.proofs.Parts.{at-front, behind-front}
 use Rattle.drawing_spec.specs.Drawing.{Point, End, Link}
-use Rattle.drawing_spec.specs.Members.{All}
-use Rattle.drawing_spec.proofs.Members.{getD-same}
+use Rattle.lists.specs.Members.{All}
+use Rattle.lists.proofs.Elements.{getD-same}
 use Rattle.drawing_spec.specs.OnGrid.{OnGrid, AtEnds}
 use Rattle.drawing_spec.specs.Read.{placeAt}
 use Rattle.grid.specs.Grid.{placeOf, coordinate}
@@ -25,17 +25,8 @@ use Rattle.file_drawing.proofs.Stores.{sets-padded}
 use Rattle.file_drawing.specs.Back.{pointBack}
 use Rattle.graph_splits.specs.Points.{Points, points, LowPoints}
 use Rattle.graph_line.specs.Lines.{Filing, filing}
-use Rattle.graph_filing.proofs.Floats.{place-back}
+use Rattle.drawing_spec.proofs.OnGrid.{place-back}
 use Rattle.graph_filing.specs.Stored.{Store, store, withFiled, storeEnd, storeLink, storeLinks, placeIn}
-
--- ---- lists
-
-module _ {A : Type 0} (l : List A) (i : ℕ) (v d : A) (rest : List A) (e : drop i l ≡ v ∷ rest) where
-  pub at-front : getD l i d ≡ v
-  at-front = ap (λ (j : ℕ). getD l j d) (sym (add-zero i)) ∙ sym (getD-drop i l 0 d) ∙ ap (λ (m : List A). getD m 0 d) e
-
-  pub behind-front : drop (suc i) l ≡ rest
-  behind-front = ap (λ (j : ℕ). drop j l) (sym (add-one i)) ∙ sym (drop-drop 1 i l) ∙ ap (drop 1) e
 
 -- ---- ends
 

@@ -1,26 +1,27 @@
 -- The moves read from the arrays are the moves of the drawing. Assumes nothing.
 use mathlib.Core.Path.{_≡_, refl, sym, ap, _∙_}
 use mathlib.Core.Bool.{Bool, true, false}
-use mathlib.Core.List.{List, [], _∷_, _++_, map, map-append, append-assoc}
+use mathlib.Core.List.{List, [], _∷_, _++_, map}
 use Prim.Native.Nat.{ℕ, suc, _+_, _-_, _*_, _≤_, _<_}
 use native.Mathlib.Nat.{add-zero}
 use native.Mathlib.Numerals.{add-one}
 use native.Mathlib.Omega.{arith}
-use lib.ListN.{length, getD, drop, length-map, length-drop}
-use lib.Seq.{drop-drop, drop-at}
+use lib.ListN.{length, getD, drop, length-drop}
 use borrow.Author.Tests.{lt-ltb, le-ltb}
 use Rattle.drawing_spec.specs.Drawing.{Point, Link}
+use Rattle.lists.proofs.Parts.{at-front, behind-front}
 use Rattle.graph_spec.specs.Chain.{chain}
 use Rattle.graph_splits.specs.Next.{at}
 use Rattle.graph_splits.specs.Points.{Points, points, pointIn}
 use Rattle.graph_segment_ends.proofs.Splits.{endsOf}
 use Rattle.file_drawing.specs.Stores.{flat, xsOf, ysOf, endsFrom}
 use Rattle.file_drawing.specs.Back.{pointsBack}
+use Rattle.file_drawing.proofs.Back.{points-back, this-line, other-lines}
 use Rattle.graph_moves.specs.Moves.{Move, start, on, drawAll, lineMoves}
 use Rattle.graph_moves.proofs.Moves.{linesMoves, linkMoves}
 use Rattle.graph_line.specs.Lines.{Filing, chainsOf, segmentsFrom, lineIn}
 use Rattle.graph_lines.specs.All.{linesIn, linksIn}
-use Rattle.graph_filed.proofs.Ends.{at-front, behind-front, endX, endY}
+use Rattle.graph_filed.proofs.Ends.{endX, endY}
 
 -- ---- chains that are the same make the same moves
 
@@ -34,23 +35,6 @@ line-same c d g s a (b ∷ ps) h =
     let hs : s + suc j ≡ suc s + j = omega arith in
     ap (λ (k : ℕ). c k p q) hg ∙ h (suc j) (omega arith) p q ∙ ap (λ (k : ℕ). d k p q) hs in
     ap (λ (qs : List Point). drawAll qs ++ lineMoves c (suc g) b ps) first ∙ ap (λ (ms : List Move). drawAll (d s a b) ++ ms) (line-same c d (suc g) (suc s) b ps next)
-
--- ---- points
-
-points-back : (ps : List Point) (k : ℕ) (xs ys r s : List ℕ) → drop k xs ≡ xsOf ps ++ r → drop k ys ≡ ysOf ps ++ s → pointsBack (length ps) k xs ys ≡ ps
-unfolding pointsBack
-points-back [] k xs ys r s ex ey = refl
-points-back (p ∷ ps) k xs ys r s ex ey =
-    rw (at-front xs k (p .x) 0 (xsOf ps ++ r) ex, at-front ys k (p .y) 0 (ysOf ps ++ s) ey)
-    (ap (λ (qs : List Point). p ∷ qs) (points-back ps (suc k) xs ys r s (behind-front xs k (p .x) 0 (xsOf ps ++ r) ex) (behind-front ys k (p .y) 0 (ysOf ps ++ s) ey)))
-
-module _ (g : Point → ℕ) (l : List Point) (ls : List (List Point)) (k : ℕ) (vs r : List ℕ) (e : drop k vs ≡ map g (flat (l ∷ ls)) ++ r) where
-  this-line : drop k vs ≡ map g l ++ (map g (flat ls) ++ r)
-  unfolding flat
-  this-line = e ∙ ap (λ (m : List ℕ). m ++ r) (map-append g l (flat ls)) ∙ append-assoc (map g l) (map g (flat ls)) r
-
-  other-lines : drop (k + length l) vs ≡ map g (flat ls) ++ r
-  other-lines = sym (drop-drop (length l) k vs) ∙ ap (drop (length l)) this-line ∙ drop-at (map g l) (map g (flat ls) ++ r) (length l) (length-map l g)
 
 -- ---- lines
 

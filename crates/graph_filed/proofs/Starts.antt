@@ -2,7 +2,7 @@
 use mathlib.Core.Path.{_≡_, refl, sym, ap, _∙_}
 use mathlib.Core.Bool.{Bool, true, false, _&&_}
 use mathlib.Core.List.{List, [], _∷_, _++_, map}
-use Prim.Native.Nat.{ℕ, zero, suc, _+_, _-_, _≤_, _<_, _^_}
+use Prim.Native.Nat.{ℕ, zero, suc, _+_, _-_, _≤_, _<_}
 use native.Mathlib.Decide.{decLe}
 use native.Mathlib.Omega.{arith}
 use lib.ListN.{length, getD, replicate, List·getD-eq-default}
@@ -11,8 +11,8 @@ use borrow.Author.Tests.{ltb-true, leb-true, eq-eqb, ne-eqb, eqb-true, eqb-false
 use Rattle.limits.specs.Limits.{mostLines, mostPoints}
 use Rattle.drawing_spec.specs.Drawing.{Point, End, Link}
 use Rattle.drawing_spec.proofs.Same.{both}
-use Rattle.drawing_spec.specs.Members.{All}
-use Rattle.drawing_spec.proofs.Members.{getD-same, all-append}
+use Rattle.lists.specs.Members.{All}
+use Rattle.lists.proofs.Elements.{getD-same}
 use Rattle.drawing_spec.specs.OnGrid.{OnGrid, AtEnds}
 use Rattle.drawing_spec.specs.Read.{total, endFits, every}
 use Rattle.drawing_spec.proofs.Accepted.{every-all}

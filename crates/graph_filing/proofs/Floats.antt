@@ -1,36 +1,26 @@
 -- Laws of specs/Floats.
-use mathlib.Core.Path.{_≡_, refl, sym, ap, subst, _∙_}
+use mathlib.Core.Path.{_≡_, sym, ap, subst, _∙_}
 use mathlib.Core.Bool.{Bool, not}
-use Prim.Native.Nat.{ℕ, _*_, _^_, _≤_}
+use Prim.Native.Nat.{ℕ, _^_, _≤_}
 use native.Mathlib.Omega.{arith}
 use lib.Dec.{T, ltb, lit≤}
 use lib.Ieee.{Float, nan, inf, fin, binary64, isNan, fits, toBits}
 use lib.Ieee.Exact.{HasValue}
-use lib.Ieee.Fits.{round-fits}
 use lib.Ieee.Bits.{ofBits-toBits}
 use Rattle.grid.specs.Grid.{gridExponent, origin, gap, placeOf, readPlace, coordinate}
-use Rattle.grid.proofs.Back.{read-is, write-is, coordinate-is, coordinate-value, read-write}
+use Rattle.grid.proofs.Back.{read-is, coordinate-fits, coordinate-value}
 use Rattle.grid.specs.declared.Place.{Place}
 use Rattle.drawing_spec.specs.Read.{placeAt}
 use Rattle.graph_filing.specs.Floats.{OnFloat}
-
-float-fits : (p : ℕ) → T (fits binary64 (coordinate p))
-float-fits p = subst (λ (x : Float). T (fits binary64 x)) (sym (coordinate-is gridExponent p)) (round-fits binary64 _ _ _)
 
 -- its pattern is read as the place
 read-float : (x : Float) → OnFloat x → readPlace (toBits binary64 x) ≡ placeOf x
 read-float x o =
     read-is gridExponent (toBits binary64 x)
-    ∙ ap placeOf (ofBits-toBits binary64 x (subst (λ (y : Float). T (fits binary64 y)) (sym (o .is)) (float-fits (o .place))))
+    ∙ ap placeOf (ofBits-toBits binary64 x (subst (λ (y : Float). T (fits binary64 y)) (sym (o .is)) (coordinate-fits gridExponent (o .place))))
 
 pub place-read : (x : Float) → OnFloat x → (r : Place) → r ≡ readPlace (toBits binary64 x) → placeAt r ≡ placeAt (placeOf x)
 place-read x o r e = ap placeAt (e ∙ read-float x o)
-
-pub place-back : (p : ℕ) → p ≤ 2 * origin → placeAt (placeOf (coordinate p)) ≡ p
-place-back p h =
-    ap placeAt
-    (sym (read-float (coordinate p) (record { place = p; low = h; is = refl }))
-    ∙ ap readPlace (sym (write-is gridExponent p)) ∙ read-write p h)
 
 no-nan : (x : Float) (s : Bool) (a d : ℕ) → HasValue x s a d → T (not (isNan x))
 unfolding isNan

@@ -5,7 +5,6 @@ use lib.ListN.{getD, set}
 use Rattle.limits.specs.Limits.{mostLines, mostPoints}
 use Rattle.drawing_spec.specs.Drawing.{Point}
 use Rattle.graph_segment_ends.specs.Ends.{Filed, filed, fileEnd}
-use Rattle.file_records.specs.declared.Point as records
 use Rattle.file_records.specs.declared.MstEdge.{MstEdge}
 use Rattle.file_drawing.specs.Held.{pastEnd}
 use Rattle.file_drawing.specs.Back.{pointBack}

@@ -3,17 +3,15 @@ use mathlib.Core.Path.{_≡_, refl, sym, ap, _∙_}
 use mathlib.Core.Bool.{Bool, true, false}
 use mathlib.Core.List.{List, [], _∷_, _++_, map, map-append, append-assoc, append-nil}
 use Prim.Native.Nat.{ℕ, suc, _≤_}
-use native.Mathlib.Decide.{decLe}
 use native.Mathlib.Omega.{arith}
 use lib.ListN.{length, length-append}
-use borrow.Author.Tests.{lt-ltb, le-ltb}
 use Rattle.length.specs.Root.{lengthOf}
 use Rattle.drawing_spec.specs.Drawing.{Point, same, Link, Drawing}
 use Rattle.graph_spec.specs.Pieces.{Stroke, stroke, pieces, linePieces, lineUses, piecesFrom, usesFrom, piecesOf, linkStrokes, linksOf, strokesOf, linkUses, usesOf}
 use Rattle.graph_spec.specs.Chain.{squared, splits, sort, inner, distinct, chain}
 use Rattle.graph_spec.specs.Graph.{Edge, edge, edgeOf, nodeOf, getOrInsert, firstUses, buildGraph}
 use Rattle.graph_spec.specs.Nodes.{IsNode}
-use Rattle.graph_spec.proofs.Nodes.{front, behind}
+use Rattle.graph_spec.proofs.Nodes.{front, inserted, insert-node, insert-keeps}
 use Rattle.graph_moves.specs.Moves.{Move, start, on, to, graph, moved, along, Stands, drawAll, lineMoves}
 use Rattle.graph_moves.proofs.Moves.{endOf, linesMoves, linkMoves, movesOf, noGraph}
 use Rattle.graph_moves.specs.Built.{usesIn}
@@ -21,31 +19,16 @@ use Rattle.graph_moves.specs.Built.{usesIn}
 -- ---- one more point, and all points after it
 
 module _ (ns : List Point) (q : Point) where
-  -- the nodes stay as they are where q is one of them, and otherwise q comes last
-  pub inserted : (Q : List Point → Type 0) → (IsNode ns q → Q ns) → (length ns ≤ nodeOf ns q → Q (ns ++ (q ∷ []))) → Q (getOrInsert ns q)
-  unfolding getOrInsert
-  inserted Q old new =
-      elim (decLe (suc (nodeOf ns q)) (length ns)) [
-        | yes h ↦ rw (lt-ltb (nodeOf ns q) (length ns) h, getOrInsert) (old h)
-        | no h ↦ let past : length ns ≤ nodeOf ns q = omega arith in rw (le-ltb (nodeOf ns q) (length ns) past, getOrInsert) (new past)
-      ]
-
-  pub got : IsNode (getOrInsert ns q) q
-  got = inserted (λ (ms : List Point). IsNode ms q) (λ h. h) (λ h. omega (arith, behind ns q h, length-append ns (q ∷ [])))
+  pub longer : length ns ≤ length (getOrInsert ns q)
+  longer = inserted ns q (λ (ms : List Point). length ns ≤ length ms) (λ h. omega arith) (λ h. omega (arith, length-append ns (q ∷ [])))
 
   pub kept : (p : Point) → IsNode ns p → nodeOf (getOrInsert ns q) p ≡ nodeOf ns p
-  kept p i = inserted (λ (ms : List Point). nodeOf ms p ≡ nodeOf ns p) (λ h. refl) (λ h. front ns (q ∷ []) p i)
-
-  pub longer : length ns ≤ length (getOrInsert ns q)
-  longer = inserted (λ (ms : List Point). length ns ≤ length ms) (λ h. omega arith) (λ h. omega (arith, length-append ns (q ∷ [])))
-
-  pub still : (p : Point) → IsNode ns p → IsNode (getOrInsert ns q) p
-  still p i = omega (arith, kept p i, longer)
+  kept p i = inserted ns q (λ (ms : List Point). nodeOf ms p ≡ nodeOf ns p) (λ h. refl) (λ h. front ns (q ∷ []) p i)
 
 pub uses-keep : (ns ps : List Point) (p : Point) → IsNode ns p → nodeOf (firstUses ns ps) p ≡ nodeOf ns p
 unfolding firstUses
 uses-keep ns [] p i = refl
-uses-keep ns (q ∷ ps) p i = uses-keep (getOrInsert ns q) ps p (still ns q p i) ∙ kept ns q p i
+uses-keep ns (q ∷ ps) p i = uses-keep (getOrInsert ns q) ps p (insert-keeps ns q p i) ∙ kept ns q p i
 
 -- ---- the strokes of moves
 
@@ -69,7 +52,7 @@ edge-kept ns ps p q hp hq = go (same p q)
 pub stands-next : (ns : List Point) (p : Point) (m : Move) (ms : List Move) → Stands (getOrInsert ns (to m)) (to m) ms
 stands-next ns p m [] = tt
 stands-next ns p m (start q ∷ ms) = tt
-stands-next ns p m (on q ∷ ms) = got ns (to m)
+stands-next ns p m (on q ∷ ms) = insert-node ns (to m)
 
 pub along-is : (p : Point) (ms : List Move) (ns : List Point) (es : List Edge) → Stands ns p ms
     → along p ms (graph ns es) ≡ graph (firstUses ns (usesIn ms)) (es ++ map (edgeOf (firstUses ns (usesIn ms))) (strokesIn p ms))
@@ -82,7 +65,7 @@ along-is p (on q ∷ ms) ns es h =
     let own = map (edgeOf ns') (pieces p (q ∷ [])) in
     along-is q ms ns' (es ++ own) (stands-next ns p (on q) ms)
     ∙ ap (graph all) (append-assoc es own (map (edgeOf all) (strokesIn q ms))
-    ∙ ap (λ (fs : List Edge). es ++ (fs ++ map (edgeOf all) (strokesIn q ms))) (edge-kept ns' (usesIn ms) p q (still ns q p h) (got ns q))
+    ∙ ap (λ (fs : List Edge). es ++ (fs ++ map (edgeOf all) (strokesIn q ms))) (edge-kept ns' (usesIn ms) p q (insert-keeps ns q p h) (insert-node ns q))
     ∙ ap (λ (fs : List Edge). es ++ fs) (sym (map-append (edgeOf all) (pieces p (q ∷ [])) (strokesIn q ms))))
 
 -- ---- the moves of a drawing make its strokes and use its points
@@ -107,9 +90,6 @@ strokes-chain p (q ∷ qs) = go (same p q) (strokes-chain q qs)
 uses-chain : (qs : List Point) → usesIn (drawAll qs) ≡ qs
 uses-chain [] = refl
 uses-chain (q ∷ qs) = ap (λ (ps : List Point). q ∷ ps) (uses-chain qs)
-
-pub draw-append : (ps qs : List Point) → drawAll (ps ++ qs) ≡ drawAll ps ++ drawAll qs
-draw-append ps qs = map-append (λ (p : Point). on p) ps qs
 
 pub end-draw : (p : Point) (qs : List Point) (b : Point) → endOf p (drawAll (qs ++ (b ∷ []))) ≡ b
 unfolding endOf

@@ -17,11 +17,6 @@ unfolding along endOf
 along-append p [] ks g = refl
 along-append p (m ∷ ms) ks g = along-append (to m) ms ks (moved p m g)
 
-pub end-append : (p : Point) (ms ks : List Move) → endOf p (ms ++ ks) ≡ endOf (endOf p ms) ks
-unfolding endOf
-end-append p [] ks = refl
-end-append p (m ∷ ms) ks = end-append (to m) ms ks
-
 unfoldable pub linesMoves : List Link → ℕ → List (List Point) → List Move
 unfolding chain lineMoves
 linesMoves ks l [] = []

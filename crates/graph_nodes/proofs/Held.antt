@@ -1,10 +1,10 @@
 -- Laws of specs/Held.
 use mathlib.Core.Path.{_≡_, refl, sym, ap, subst, _∙_}
 use mathlib.Core.Logic.{inl, inr}
-use mathlib.Core.List.{List, [], _∷_, _++_, map}
-use mathlib.Core.Bool.{Bool, true, false, _&&_}
+use mathlib.Core.List.{List, [], _∷_, _++_, map, map-append}
+use mathlib.Core.Bool.{Bool, true, false, _&&_, cond}
 use Prim.Native.Nat.{ℕ, zero, suc, _+_, _-_, _≤_, _<_}
-use native.Mathlib.Nat.{add-zero, add-suc, suc-add, mod-lt, not-suc-le-zero}
+use native.Mathlib.Nat.{mod-lt, not-suc-le-zero}
 use native.Mathlib.Decide.{decLe}
 use native.Mathlib.Omega.{arith}
 use lib.ListN.{length, getD, set, replicate, length-set, length-append, length-replicate, length-map, getD-replicate}
@@ -12,11 +12,12 @@ use lib.Seq.{sets, length-sets, getD-set-same, getD-set-other}
 use lib.Dec.{eqb, ltb, lit<}
 use borrow.Author.Tests.{lt-ltb, le-ltb, ltb-true, ltb-false, eqb-true, eqb-false, eq-eqb, ne-eqb}
 use Rattle.limits.specs.Limits.{mostNodes}
+use Rattle.lists.proofs.Parts.{sets-append}
 use Rattle.drawing_spec.specs.Drawing.{Point, same}
 use Rattle.drawing_spec.proofs.Same.{same-true, same-false, differ}
 use Rattle.graph_spec.specs.Graph.{find, nodeOf, getOrInsert}
 use Rattle.graph_spec.proofs.Nodes.{front, behind, neither}
-use Rattle.graph_nodes.specs.Table.{Table, bucketCount, HasRoom, noNodes, hashOf, pick, isAt, seek, foundIn, inserted, numberIn, tableWith, countWith}
+use Rattle.graph_nodes.specs.Table.{Table, bucketCount, HasRoom, noNodes, hashOf, isAt, seek, foundIn, inserted, numberIn, tableWith, countWith}
 use Rattle.graph_nodes.proofs.Table.{seek-hit, seek-on, seek-none, number-found, number-new, with-found, with-new}
 use Rattle.graph_nodes.specs.Held.{Held, Inside, answer}
 
@@ -43,20 +44,12 @@ held-none = record {
 
 -- ---- one node more
 
-sets-behind : (l : List ℕ) (i : ℕ) (vs : List ℕ) (x : ℕ) → set (sets l i vs) (i + length vs) x ≡ sets l i (vs ++ (x ∷ []))
-sets-behind l i [] x = ap (λ (k : ℕ). set l k x) (add-zero i)
-sets-behind l i (v ∷ vs) x = ap (λ (k : ℕ). set (sets (set l i v) (suc i) vs) k x) (add-suc i (length vs) ∙ sym (suc-add i (length vs))) ∙ sets-behind (set l i v) (suc i) vs x
-
-map-behind : (f : Point → ℕ) (ns : List Point) (p : Point) → map f ns ++ (f p ∷ []) ≡ map f (ns ++ (p ∷ []))
-map-behind f [] p = refl
-map-behind f (n ∷ ns) p = ap (λ (l : List ℕ). f n ∷ l) (map-behind f ns p)
-
 filled : (f : Point → ℕ) (ns : List Point) (p : Point) (l : List ℕ) → l ≡ sets (replicate mostNodes 0) 0 (map f ns)
     → set l (length ns) (f p) ≡ sets (replicate mostNodes 0) 0 (map f (ns ++ (p ∷ [])))
 filled f ns p l e =
     let at : length ns ≡ 0 + length (map f ns) = omega (arith, length-map ns f) in
     ap (λ (k : List ℕ). set k (length ns) (f p)) e ∙ ap (λ (k : ℕ). set (sets (replicate mostNodes 0) 0 (map f ns)) k (f p)) at
-    ∙ sets-behind (replicate mostNodes 0) 0 (map f ns) (f p) ∙ ap (sets (replicate mostNodes 0) 0) (map-behind f ns p)
+    ∙ sym (sets-append (replicate mostNodes 0) 0 (map f ns) (f p ∷ [])) ∙ ap (sets (replicate mostNodes 0) 0) (sym (map-append f ns (p ∷ [])))
 
 long : (f : Point → ℕ) (ns : List Point) (l : List ℕ) → l ≡ sets (replicate mostNodes 0) 0 (map f ns) → length l ≡ mostNodes
 long f ns l e = ap length e ∙ length-sets (replicate mostNodes 0) 0 (map f ns) ∙ length-replicate {A = ℕ} mostNodes 0
@@ -68,22 +61,22 @@ answer-kept ns p q d = go (ltb (nodeOf ns p) (length ns)) refl
     more : length (ns ++ (q ∷ [])) ≡ length ns + 1
     more = length-append ns (q ∷ [])
 
-    go : (b : Bool) → ltb (nodeOf ns p) (length ns) ≡ b → pick b (nodeOf ns p) mostNodes ≡ answer (ns ++ (q ∷ [])) p
+    go : (b : Bool) → ltb (nodeOf ns p) (length ns) ≡ b → cond b (nodeOf ns p) mostNodes ≡ answer (ns ++ (q ∷ [])) p
     go true e =
         let low : nodeOf ns p < length ns = ltb-true _ _ e in
         let is = front ns (q ∷ []) p low in
         let below : nodeOf (ns ++ (q ∷ [])) p < length (ns ++ (q ∷ [])) = omega (arith, is, more) in
-        sym (ap (λ (b : Bool). pick b (nodeOf (ns ++ (q ∷ [])) p) mostNodes) (lt-ltb _ _ below) ∙ is)
+        sym (ap (λ (b : Bool). cond b (nodeOf (ns ++ (q ∷ [])) p) mostNodes) (lt-ltb _ _ below) ∙ is)
     go false e =
         let is = neither ns p q (ltb-false _ _ e) d in
         let past : length (ns ++ (q ∷ [])) ≤ nodeOf (ns ++ (q ∷ [])) p = omega (arith, is, more) in
-        sym (ap (λ (b : Bool). pick b (nodeOf (ns ++ (q ∷ [])) p) mostNodes) (le-ltb _ _ past))
+        sym (ap (λ (b : Bool). cond b (nodeOf (ns ++ (q ∷ [])) p) mostNodes) (le-ltb _ _ past))
 
 answer-new : (ns : List Point) (q : Point) → length ns ≤ nodeOf ns q → answer (ns ++ (q ∷ [])) q ≡ length ns
 answer-new ns q h =
     let is = behind ns q h in
     let below : nodeOf (ns ++ (q ∷ [])) q < length (ns ++ (q ∷ [])) = omega (arith, is, length-append ns (q ∷ [])) in
-    ap (λ (b : Bool). pick b (nodeOf (ns ++ (q ∷ [])) q) mostNodes) (lt-ltb _ _ below) ∙ is
+    ap (λ (b : Bool). cond b (nodeOf (ns ++ (q ∷ [])) q) mostNodes) (lt-ltb _ _ below) ∙ is
 
 module _ (t : Table) (ns : List Point) (H : Held t ns) (q : Point) (new : length ns ≤ nodeOf ns q) (has : length ns < mostNodes) where
   -- a search among the older nodes goes on as before
@@ -103,9 +96,9 @@ module _ (t : Table) (ns : List Point) (H : Held t ns) (q : Point) (new : length
       let x-is = getD-set-other (t .xs) (length ns) i (q .x) 0 off in
       let y-is = getD-set-other (t .ys) (length ns) i (q .y) 0 off in
       let n-is = getD-set-other (t .next) (length ns) i head 0 off in
-      ap (λ (k : ℕ). pick (ltb i mostNodes) (pick (eqb k x && eqb (getD ys' i 0) y) i (seek fuel xs' ys' ns' x y (getD ns' i 0))) mostNodes) x-is
-      ∙ ap (λ (k : ℕ). pick (ltb i mostNodes) (pick (eqb (getD (t .xs) i 0) x && eqb k y) i (seek fuel xs' ys' ns' x y (getD ns' i 0))) mostNodes) y-is
-      ∙ ap (λ (k : ℕ). pick (ltb i mostNodes) (pick (isAt (t .xs) (t .ys) x y i) i k) mostNodes)
+      ap (λ (k : ℕ). cond (ltb i mostNodes) (cond (eqb k x && eqb (getD ys' i 0) y) i (seek fuel xs' ys' ns' x y (getD ns' i 0))) mostNodes) x-is
+      ∙ ap (λ (k : ℕ). cond (ltb i mostNodes) (cond (eqb (getD (t .xs) i 0) x && eqb k y) i (seek fuel xs' ys' ns' x y (getD ns' i 0))) mostNodes) y-is
+      ∙ ap (λ (k : ℕ). cond (ltb i mostNodes) (cond (isAt (t .xs) (t .ys) x y i) i k) mostNodes)
       (ap (seek fuel xs' ys' ns' x y) n-is ∙ kept fuel x y (getD (t .next) i 0) (H .next-inside i h))
 
   next-now : (j : ℕ) → j < length (ns ++ (q ∷ [])) → Inside (suc (length ns)) (getD (set (t .next) (length ns) (getD (t .buckets) (hashOf (q .x) (q .y)) 0)) j 0)
@@ -218,11 +211,11 @@ get-or-insert t ns p H r = go (ltb (nodeOf ns p) (length ns)) refl r
         → (numberIn (length ns) (p .x) (p .y) t ≡ nodeOf (elim b [ true ↦ ns | false ↦ ns ++ (p ∷ []) ]) p)
         × Held (tableWith (length ns) (p .x) (p .y) t) (elim b [ true ↦ ns | false ↦ ns ++ (p ∷ []) ])
     go true e r =
-        let at : foundIn (length ns) (p .x) (p .y) t ≡ nodeOf ns p = is ∙ ap (λ (b : Bool). pick b (nodeOf ns p) mostNodes) e in
+        let at : foundIn (length ns) (p .x) (p .y) t ≡ nodeOf ns p = is ∙ ap (λ (b : Bool). cond b (nodeOf ns p) mostNodes) e in
         let low : foundIn (length ns) (p .x) (p .y) t < mostNodes = omega (arith, ltb-true (nodeOf ns p) (length ns) e, H .room) in
         (number-found (length ns) (p .x) (p .y) t low ∙ at, subst (λ (u : Table). Held u ns) (sym (with-found (length ns) (p .x) (p .y) t low)) H)
     go false e r =
-        let at : foundIn (length ns) (p .x) (p .y) t ≡ mostNodes = is ∙ ap (λ (b : Bool). pick b (nodeOf ns p) mostNodes) e in
+        let at : foundIn (length ns) (p .x) (p .y) t ≡ mostNodes = is ∙ ap (λ (b : Bool). cond b (nodeOf ns p) mostNodes) e in
         let high : mostNodes ≤ foundIn (length ns) (p .x) (p .y) t = omega arith in
         let fits : length ns < mostNodes = omega (arith, length-append ns (p ∷ [])) in
         let new = ltb-false (nodeOf ns p) (length ns) e in (
@@ -239,7 +232,7 @@ held-room t ns p H r = go (ltb (nodeOf ns p) (length ns)) refl r
     is = H .found p (length ns) (omega arith)
 
     go : (b : Bool) → ltb (nodeOf ns p) (length ns) ≡ b → length {A = Point} (elim b [ true ↦ ns | false ↦ ns ++ (p ∷ []) ]) ≤ mostNodes → HasRoom (length ns) (p .x) (p .y) t
-    go true e r = inl (omega (arith, is ∙ ap (λ (b : Bool). pick b (nodeOf ns p) mostNodes) e, ltb-true (nodeOf ns p) (length ns) e, H .room))
+    go true e r = inl (omega (arith, is ∙ ap (λ (b : Bool). cond b (nodeOf ns p) mostNodes) e, ltb-true (nodeOf ns p) (length ns) e, H .room))
     go false e r = inr (omega (arith, length-append ns (p ∷ [])))
 
 -- the number of nodes with the point
@@ -249,7 +242,7 @@ counted ns p = go (ltb (nodeOf ns p) (length ns)) refl
   where
     go : (b : Bool) → ltb (nodeOf ns p) (length ns) ≡ b
         → countWith (length ns) (nodeOf (elim b [ true ↦ ns | false ↦ ns ++ (p ∷ []) ]) p) ≡ length {A = Point} (elim b [ true ↦ ns | false ↦ ns ++ (p ∷ []) ])
-    go true e = let low = ltb-true (nodeOf ns p) (length ns) e in ap (λ (b : Bool). pick b (length ns + 1) (length ns)) (ne-eqb (nodeOf ns p) (length ns) (omega arith))
+    go true e = let low = ltb-true (nodeOf ns p) (length ns) e in ap (λ (b : Bool). cond b (length ns + 1) (length ns)) (ne-eqb (nodeOf ns p) (length ns) (omega arith))
     go false e =
         let new = ltb-false (nodeOf ns p) (length ns) e in
-        ap (λ (b : Bool). pick b (length ns + 1) (length ns)) (eq-eqb (nodeOf (ns ++ (p ∷ [])) p) (length ns) (behind ns p new)) ∙ sym (length-append ns (p ∷ []))
+        ap (λ (b : Bool). cond b (length ns + 1) (length ns)) (eq-eqb (nodeOf (ns ++ (p ∷ [])) p) (length ns) (behind ns p new)) ∙ sym (length-append ns (p ∷ []))

@@ -3,22 +3,22 @@ use mathlib.Core.Path.{_≡_, refl, sym, ap, _∙_}
 use Prim.Native.Nat.{ℕ, zero, suc, _+_, _-_, _≤_, _<_}
 use mathlib.Core.Logic.{inl, inr}
 use mathlib.Core.List.{List}
-use mathlib.Core.Bool.{Bool, true, false, _&&_}
+use mathlib.Core.Bool.{Bool, true, false, _&&_, cond}
 use lib.ListN.{getD, set}
-use lib.Dec.{eqb, ltb}
+use lib.Dec.{eqb}
 use borrow.Author.Tests.{lt-ltb, le-ltb, eq-eqb, ne-eqb}
 use native.Mathlib.Decide.{decLe}
 use native.Mathlib.Omega.{arith}
 use Rattle.limits.specs.Limits.{mostNodes}
-use Rattle.graph_nodes.specs.Table.{HasRoom, Table, countWith, foundIn, hashOf, inserted, isAt, numberIn, pick, pickTable, seek, table, tableWith}
+use Rattle.graph_nodes.specs.Table.{HasRoom, Table, countWith, foundIn, hashOf, inserted, isAt, numberIn, seek, table, tableWith}
 
 pub count-new : (n number : ℕ) → number ≡ n → countWith n number ≡ n + 1
 unfolding countWith
-count-new n number h = ap (λ (b : Bool). pick b (n + 1) n) (eq-eqb number n h)
+count-new n number h = ap (λ (b : Bool). cond b (n + 1) n) (eq-eqb number n h)
 
 pub count-old : (n number : ℕ) → (number ≡ n → ⊥) → countWith n number ≡ n
 unfolding countWith
-count-old n number h = ap (λ (b : Bool). pick b (n + 1) n) (ne-eqb number n h)
+count-old n number h = ap (λ (b : Bool). cond b (n + 1) n) (ne-eqb number n h)
 
 -- ---- laws of following
 
@@ -27,21 +27,21 @@ module _ (xs ys ns : List ℕ) (x y : ℕ) where
   unfolding seek
   seek-hit zero i f h e = absurd (omega arith)
   seek-hit (suc fuel) i f h e =
-      ap (λ (t : Bool). pick t (pick (isAt xs ys x y i) i (seek fuel xs ys ns x y (getD ns i 0))) mostNodes) (lt-ltb i mostNodes h)
-      ∙ ap (λ (t : Bool). pick t i (seek fuel xs ys ns x y (getD ns i 0))) e
+      ap (λ (t : Bool). cond t (cond (isAt xs ys x y i) i (seek fuel xs ys ns x y (getD ns i 0))) mostNodes) (lt-ltb i mostNodes h)
+      ∙ ap (λ (t : Bool). cond t i (seek fuel xs ys ns x y (getD ns i 0))) e
 
   pub seek-on : (fuel i : ℕ) → 0 < fuel → i < mostNodes → isAt xs ys x y i ≡ false → seek fuel xs ys ns x y i ≡ seek (fuel - 1) xs ys ns x y (getD ns i 0)
   unfolding seek
   seek-on zero i f h e = absurd (omega arith)
   seek-on (suc fuel) i f h e =
       let less : fuel ≡ suc fuel - 1 = omega arith in
-      ap (λ (t : Bool). pick t (pick (isAt xs ys x y i) i (seek fuel xs ys ns x y (getD ns i 0))) mostNodes) (lt-ltb i mostNodes h)
-      ∙ ap (λ (t : Bool). pick t i (seek fuel xs ys ns x y (getD ns i 0))) e ∙ ap (λ (k : ℕ). seek k xs ys ns x y (getD ns i 0)) less
+      ap (λ (t : Bool). cond t (cond (isAt xs ys x y i) i (seek fuel xs ys ns x y (getD ns i 0))) mostNodes) (lt-ltb i mostNodes h)
+      ∙ ap (λ (t : Bool). cond t i (seek fuel xs ys ns x y (getD ns i 0))) e ∙ ap (λ (k : ℕ). seek k xs ys ns x y (getD ns i 0)) less
 
   pub seek-none : (fuel i : ℕ) → mostNodes ≤ i → seek fuel xs ys ns x y i ≡ mostNodes
   unfolding seek
   seek-none zero i h = refl
-  seek-none (suc fuel) i h = ap (λ (t : Bool). pick t (pick (isAt xs ys x y i) i (seek fuel xs ys ns x y (getD ns i 0))) mostNodes) (le-ltb i mostNodes h)
+  seek-none (suc fuel) i h = ap (λ (t : Bool). cond t (cond (isAt xs ys x y i) i (seek fuel xs ys ns x y (getD ns i 0))) mostNodes) (le-ltb i mostNodes h)
 
   pub seek-end : (fuel i : ℕ) → fuel ≡ 0 → seek fuel xs ys ns x y i ≡ mostNodes
   unfolding seek
@@ -66,19 +66,19 @@ inserted-is n x y h t e = ap (λ (k : ℕ). table (set (t .xs) n x) (set (t .ys)
 module _ (n x y : ℕ) (t : Table) where
   pub number-found : foundIn n x y t < mostNodes → numberIn n x y t ≡ foundIn n x y t
   unfolding numberIn
-  number-found h = ap (λ (b : Bool). pick b (foundIn n x y t) n) (lt-ltb _ _ h)
+  number-found h = ap (λ (b : Bool). cond b (foundIn n x y t) n) (lt-ltb _ _ h)
 
   pub number-new : mostNodes ≤ foundIn n x y t → numberIn n x y t ≡ n
   unfolding numberIn
-  number-new h = ap (λ (b : Bool). pick b (foundIn n x y t) n) (le-ltb _ _ h)
+  number-new h = ap (λ (b : Bool). cond b (foundIn n x y t) n) (le-ltb _ _ h)
 
   pub with-found : foundIn n x y t < mostNodes → tableWith n x y t ≡ t
   unfolding tableWith
-  with-found h = ap (λ (b : Bool). pickTable b t (inserted n x y t)) (lt-ltb _ _ h)
+  with-found h = ap (λ (b : Bool). cond b t (inserted n x y t)) (lt-ltb _ _ h)
 
   pub with-new : mostNodes ≤ foundIn n x y t → tableWith n x y t ≡ inserted n x y t
   unfolding tableWith
-  with-new h = ap (λ (b : Bool). pickTable b t (inserted n x y t)) (le-ltb _ _ h)
+  with-new h = ap (λ (b : Bool). cond b t (inserted n x y t)) (le-ltb _ _ h)
 
   room-new : HasRoom n x y t → mostNodes ≤ foundIn n x y t → n < mostNodes
   room-new (inl f) h = absurd (omega arith)

@@ -1,4 +1,5 @@
 -- A table holds the nodes of a list, and its answers are those of the list. Assumes nothing.
+use mathlib.Core.Bool.{cond}
 use mathlib.Core.Path.{_≡_}
 use mathlib.Core.Logic.{_⊎_}
 use mathlib.Core.List.{List, map}
@@ -9,7 +10,7 @@ use lib.Dec.{ltb}
 use Rattle.limits.specs.Limits.{mostNodes}
 use Rattle.drawing_spec.specs.Drawing.{Point}
 use Rattle.graph_spec.specs.Graph.{nodeOf}
-use Rattle.graph_nodes.specs.Table.{Table, bucketCount, pick, foundIn}
+use Rattle.graph_nodes.specs.Table.{Table, bucketCount, foundIn}
 
 -- a node below m, or none
 abbrev pub Inside : ℕ → ℕ → Type 0
@@ -17,7 +18,7 @@ Inside m k = (k < m) ⊎ (mostNodes ≤ k)
 
 -- the answer for p among the nodes ns
 abbrev pub answer : List Point → Point → ℕ
-answer ns p = pick (ltb (nodeOf ns p) (length ns)) (nodeOf ns p) mostNodes
+answer ns p = cond (ltb (nodeOf ns p) (length ns)) (nodeOf ns p) mostNodes
 
 -- the coordinates stand in order from the front, and a search finds each node, and no other point
 pub record Held (t : Table) (ns : List Point) : Type 0 where

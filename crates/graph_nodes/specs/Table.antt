@@ -2,7 +2,7 @@
 use Prim.Native.Nat.{ℕ, zero, suc, _+_, _*_, _/_, _%_, _<_}
 use mathlib.Core.Logic.{_⊎_}
 use mathlib.Core.List.{List}
-use mathlib.Core.Bool.{Bool, true, false, _&&_}
+use mathlib.Core.Bool.{Bool, _&&_, cond}
 use lib.ListN.{getD, set, replicate}
 use lib.Dec.{eqb, ltb}
 use Rattle.limits.specs.Limits.{mostNodes}
@@ -27,14 +27,6 @@ noNodes = table (replicate mostNodes 0) (replicate mostNodes 0) (replicate mostN
 unfoldable pub hashOf : ℕ → ℕ → ℕ
 hashOf x y = (1565004953 * x + 1269492321 * y) / 2147483648 % bucketCount
 
-abbrev pub pick : Bool → ℕ → ℕ → ℕ
-pick true m n = m
-pick false m n = n
-
-abbrev pub pickTable : Bool → Table → Table → Table
-pickTable true s t = s
-pickTable false s t = t
-
 -- whether node i is at x, y
 abbrev pub isAt : List ℕ → List ℕ → ℕ → ℕ → ℕ → Bool
 isAt xs ys x y i = eqb (getD xs i 0) x && eqb (getD ys i 0) y
@@ -42,7 +34,7 @@ isAt xs ys x y i = eqb (getD xs i 0) x && eqb (getD ys i 0) y
 -- the node at x, y that is found from the node i on, going to the next older one at most `fuel` times; mostNodes where there is none
 unfoldable pub seek : ℕ → List ℕ → List ℕ → List ℕ → ℕ → ℕ → ℕ → ℕ
 seek zero xs ys ns x y i = mostNodes
-seek (suc fuel) xs ys ns x y i = pick (ltb i mostNodes) (pick (isAt xs ys x y i) i (seek fuel xs ys ns x y (getD ns i 0))) mostNodes
+seek (suc fuel) xs ys ns x y i = cond (ltb i mostNodes) (cond (isAt xs ys x y i) i (seek fuel xs ys ns x y (getD ns i 0))) mostNodes
 
 -- among n nodes
 abbrev pub foundIn : ℕ → ℕ → ℕ → Table → ℕ
@@ -59,13 +51,13 @@ HasRoom n x y t = (foundIn n x y t < mostNodes) ⊎ (n < mostNodes)
 -- The number of the node at x, y, which is n where it is new.
 unfoldable pub numberIn : ℕ → ℕ → ℕ → Table → ℕ
 unfolding seek hashOf
-numberIn n x y t = pick (ltb (foundIn n x y t) mostNodes) (foundIn n x y t) n
+numberIn n x y t = cond (ltb (foundIn n x y t) mostNodes) (foundIn n x y t) n
 
 -- the table with it
 unfoldable pub tableWith : ℕ → ℕ → ℕ → Table → Table
 unfolding seek inserted
-tableWith n x y t = pickTable (ltb (foundIn n x y t) mostNodes) t (inserted n x y t)
+tableWith n x y t = cond (ltb (foundIn n x y t) mostNodes) t (inserted n x y t)
 
 -- how many nodes there are then, of which there were n
 unfoldable pub countWith : ℕ → ℕ → ℕ
-countWith n number = pick (eqb number n) (n + 1) n
+countWith n number = cond (eqb number n) (n + 1) n

@@ -10,7 +10,7 @@ use lib.ListN.{length, getD, replicate, length-set, length-replicate, drop, drop
 use lib.Seq.{getD-set-same, getD-set-other, drop-cons}
 use lib.Ieee.{nan}
 use Rattle.limits.specs.Limits.{mostNodes, edgeRoom}
-use Rattle.drawing_spec.proofs.Members.{getD-same, set-cases}
+use Rattle.lists.proofs.Elements.{getD-same, set-cases}
 use Rattle.graph_spec.specs.Graph.{Edge, edge}
 use Rattle.graph_spec.specs.Odd.{hit, degree}
 use Rattle.graph_spec.proofs.Sums.{hit-same, hit-other, hit-le}

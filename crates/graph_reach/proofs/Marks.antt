@@ -2,7 +2,7 @@
 use mathlib.Core.Path.{_≡_, refl, sym, ap, subst, _∙_}
 use mathlib.Core.Logic.{_⊎_, inl, inr}
 use mathlib.Core.List.{List, [], _∷_}
-use mathlib.Core.Bool.{Bool, true, false, false≢true}
+use mathlib.Core.Bool.{Bool, true, false, false≢true, cond}
 use Prim.Native.Nat.{ℕ, zero, suc, _≤_, _<_}
 use native.Mathlib.Nat.{le-of-suc-le-suc, lt-of-not-le}
 use native.Mathlib.Decide.{ℕ-discrete}
@@ -10,9 +10,9 @@ use native.Mathlib.Omega.{arith}
 use lib.ListN.{length, getD, set, length-set, List·getD-eq-default}
 use lib.Seq.{getD-set-same, getD-set-other}
 use Rattle.limits.specs.Limits.{mostNodes}
-use Rattle.drawing_spec.specs.Members.{In, All}
-use Rattle.drawing_spec.proofs.Members.{set-cases}
-use Rattle.graph_reach.specs.Marks.{Marked, Marks, Tidy, free, markAll, marking, pickMarks, with}
+use Rattle.lists.specs.Members.{In, All}
+use Rattle.lists.proofs.Elements.{set-cases, set-keeps}
+use Rattle.graph_reach.specs.Marks.{Marked, Marks, Tidy, free, markAll, marking, with}
 
 abbrev pub Nodes : List ℕ → Type 0
 Nodes ws = All (λ (w : ℕ). w < mostNodes) ws
@@ -20,17 +20,17 @@ Nodes ws = All (λ (w : ℕ). w < mostNodes) ws
 module _ (v : ℕ) (s : Marks) where
   pub marking-old : Marked s v → marking v s ≡ s
   unfolding marking
-  marking-old h = ap (λ (t : Bool). pickMarks t s (with v s)) h
+  marking-old h = ap (λ (t : Bool). cond t s (with v s)) h
 
   pub marking-new : getD (s .marked) v false ≡ false → marking v s ≡ with v s
   unfolding marking
-  marking-new h = ap (λ (t : Bool). pickMarks t s (with v s)) h
+  marking-new h = ap (λ (t : Bool). cond t s (with v s)) h
 
   marking-case : (P : Marks → Type 0) → (Marked s v → P s) → (getD (s .marked) v false ≡ false → P (with v s)) → P (marking v s)
   unfolding marking
   marking-case P old new = go (getD (s .marked) v false) refl
     where
-      go : (t : Bool) → getD (s .marked) v false ≡ t → P (pickMarks t s (with v s))
+      go : (t : Bool) → getD (s .marked) v false ≡ t → P (cond t s (with v s))
       go true e = old e
       go false e = new e
 
@@ -52,9 +52,6 @@ marked-below s t v m = lt-of-not-le (λ l. false≢true (sym (List·getD-eq-defa
 pub room-for : (s : Marks) → Tidy s → (v : ℕ) → v < mostNodes → getD (s .marked) v false ≡ false → s .tail < mostNodes
 room-for s t v h e = omega (arith, t .room, free-set (s .marked) v (omega (arith, t .marked-long)) e)
 
-set-keeps : (ms : List Bool) (u v : ℕ) → getD ms v false ≡ true → getD (set ms u true) v false ≡ true
-set-keeps ms u v m = elim (set-cases ms u true false v) [ inl p ↦ p .1 | inr e ↦ e ∙ m ]
-
 module _ (s : Marks) (t : Tidy s) (v : ℕ) (h : v < mostNodes) where
   new-marked : Marked (with v s) v
   new-marked = getD-set-same (s .marked) v true false (omega (arith, t .marked-long))
@@ -72,7 +69,7 @@ module _ (s : Marks) (t : Tidy s) (v : ℕ) (h : v < mostNodes) where
               subst (λ (w : ℕ). Marked (with v s) w) (sym at) new-marked
           | no other ↦
               let at : getD (set (s .queue) (s .tail) v) j 0 ≡ getD (s .queue) j 0 = getD-set-other (s .queue) (s .tail) j v 0 other in
-              subst (λ (w : ℕ). Marked (with v s) w) (sym at) (set-keeps (s .marked) v (getD (s .queue) j 0) (t .queued j (omega arith)))
+              subst (λ (w : ℕ). Marked (with v s) w) (sym at) (set-keeps (s .marked) v true false (getD (s .queue) j 0) (t .queued j (omega arith)))
         ];
       }
 
@@ -125,7 +122,7 @@ marking-grown s t v h = marking-case v s (Grown s) (λ m. grown-none s) new
     new e =
         let some = room-for s t v h e in
         record {
-          keeps = λ w m. set-keeps (s .marked) v w m;
+          keeps = λ w m. set-keeps (s .marked) v true false w m;
           longer = omega arith;
           same = λ j l. getD-set-other (s .queue) (s .tail) j v 0 (λ z. omega arith);
           fresh = λ w m. elim (set-cases (s .marked) v true false w) [

@@ -8,8 +8,8 @@ use native.Mathlib.Decide.{ℕ-discrete}
 use native.Mathlib.Omega.{arith}
 use lib.ListN.{getD, set, replicate, length-set, length-replicate}
 use Rattle.limits.specs.Limits.{mostNodes}
-use Rattle.drawing_spec.specs.Members.{In}
-use Rattle.drawing_spec.proofs.Members.{set-cases, getD-same}
+use Rattle.lists.specs.Members.{In}
+use Rattle.lists.proofs.Elements.{set-cases, getD-same}
 use Rattle.graph_spec.specs.Graph.{Edge}
 use Rattle.graph_spec.specs.Ways.{Inside, Joined, Reach, here, on}
 use Rattle.graph_spec.specs.Reach.{allReached}

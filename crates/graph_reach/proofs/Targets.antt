@@ -1,17 +1,17 @@
 -- The arcs of a node lead to the nodes that are joined with it, and the loop over them marks these. Assumes nothing.
 use mathlib.Core.Path.{_≡_, refl, sym, ap, subst, _∙_}
-use mathlib.Core.Logic.{inl, inr}
 use mathlib.Core.List.{List, [], _∷_, map}
 use Prim.Native.Nat.{ℕ, _-_, _≤_, _<_}
 use native.Mathlib.Omega.{arith}
 use lib.ListN.{getD}
 use Rattle.limits.specs.Limits.{mostNodes, arcRoom}
-use Rattle.drawing_spec.specs.Members.{In}
-use Rattle.drawing_spec.proofs.Members.{in-all}
+use Rattle.lists.specs.Members.{In}
+use Rattle.lists.proofs.Members.{in-map, of-map}
+use Rattle.lists.proofs.Members.{in-all}
 use Rattle.graph_spec.specs.Graph.{Edge, Arc, edgesAt}
 use Rattle.graph_spec.specs.Ways.{Joins, Joined}
 use Rattle.graph_spec.proofs.Connected.{joins-inside}
-use Rattle.graph_spec.proofs.EdgesAt.{edgeAt, number-of, edgesAt-all, edgesAt-arc, arc-joins}
+use Rattle.graph_spec.proofs.EdgesAt.{edgeAt, number-of, edgesAt-all, edgesAt-arc, arc-joins, other-end}
 use Rattle.graph_adjacency.specs.Lists.{Adjacency, firstArc, nextArc, arcAt}
 use Rattle.graph_adjacency.specs.Follow.{Follows}
 use Rattle.graph_adjacency.proofs.Follow.{follows-none, follows-arc, follows-next}
@@ -21,20 +21,6 @@ use Rattle.graph_reach.specs.Marks.{Marks, Tidy, marking, markAll, targe
 use Rattle.graph_reach.proofs.Marks.{Nodes, tidy-marking}
 
 -- ---- the nodes that v is joined with
-
-other-end : (e : Edge) (u v w : ℕ) → Joins e u v → Joins e u w → v ≡ w
-other-end e u v w (inl p) (inl q) = sym (p .1) ∙ q .1
-other-end e u v w (inl p) (inr q) = sym (p .1) ∙ q .1 ∙ sym (p .0) ∙ q .0
-other-end e u v w (inr p) (inl q) = sym (p .0) ∙ q .0 ∙ sym (p .1) ∙ q .1
-other-end e u v w (inr p) (inr q) = sym (p .0) ∙ q .0
-
-in-map : {A B : Type 0} (f : A → B) (x : A) (xs : List A) → In x xs → In (f x) (map f xs)
-in-map f x (y ∷ xs) (inl e) = inl (ap f e)
-in-map f x (y ∷ xs) (inr i) = inr (in-map f x xs i)
-
-of-map : {A B : Type 0} (f : A → B) (y : B) (xs : List A) → In y (map f xs) → (x : A) × In x xs × (f x ≡ y)
-of-map f y (x ∷ xs) (inl e) = (x, inl refl, sym e)
-of-map f y (x ∷ xs) (inr i) = let r = of-map f y xs i in (r .0, inr (r .1), r .2)
 
 pub joined-target : (es : List Edge) (v w : ℕ) → Joined es v w → In w (targetsOf es v)
 joined-target es v w k =

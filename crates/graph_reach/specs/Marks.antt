@@ -1,7 +1,7 @@
 -- Marked nodes, in a queue in the order in which they were marked. Assumes nothing.
 use mathlib.Core.Path.{_≡_}
 use mathlib.Core.List.{List, [], _∷_, map}
-use mathlib.Core.Bool.{Bool, true, false}
+use mathlib.Core.Bool.{Bool, true, false, cond}
 use Prim.Native.Nat.{ℕ, suc, _+_, _≤_, _<_}
 use lib.ListN.{length, getD, set}
 use Rattle.limits.specs.Limits.{mostNodes}
@@ -23,13 +23,9 @@ Marked s v = getD (s .marked) v false ≡ true
 abbrev pub with : ℕ → Marks → Marks
 with v s = marks (set (s .marked) v true) (set (s .queue) (s .tail) v) (s .tail + 1)
 
-abbrev pub pickMarks : Bool → Marks → Marks → Marks
-pickMarks true s t = s
-pickMarks false s t = t
-
 -- v is marked, unless it is already
 unfoldable pub marking : ℕ → Marks → Marks
-marking v s = pickMarks (getD (s .marked) v false) s (with v s)
+marking v s = cond (getD (s .marked) v false) s (with v s)
 
 unfoldable pub markAll : List ℕ → Marks → Marks
 markAll [] s = s

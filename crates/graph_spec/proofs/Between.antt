@@ -7,7 +7,7 @@ use Prim.Native.Nat.{ℕ, _+_, _≤_, _<_}
 use native.Mathlib.Omega.{arith}
 use lib.ListN.{length}
 use Rattle.drawing_spec.specs.Drawing.{Point}
-use Rattle.drawing_spec.specs.Members.{All}
+use Rattle.lists.specs.Members.{All}
 use Rattle.graph_spec.specs.Graph.{nodeOf, pointAt}
 use Rattle.graph_spec.specs.Odd.{hit}
 use Rattle.graph_spec.specs.Count.{sumOver, stepSum, lineSum, joint, lies, touches}

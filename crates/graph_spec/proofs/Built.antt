@@ -1,5 +1,5 @@
 -- The graph of a drawing has an edge between two nodes for every stroke between their points, and no other edge.
-use mathlib.Core.Path.{_≡_, refl, sym, ap, _∙_}
+use mathlib.Core.Path.{_≡_, refl, sym, _∙_}
 use mathlib.Core.Logic.{_⊎_}
 use mathlib.Core.List.{List, [], _∷_, map}
 use Prim.Native.Nat.{ℕ, zero, suc, zero-le, _+_, _^_, _≤_, _<_}
@@ -12,9 +12,8 @@ use Rattle.sums.specs.Key.{Nonneg}
 use Rattle.grid.specs.Grid.{gridExponent}
 use Rattle.length.proofs.LengthLaws.{squared-lt, length-nonneg}
 use Rattle.drawing_spec.specs.Drawing.{Point, Drawing}
-use Rattle.drawing_spec.proofs.Same.{differ}
-use Rattle.drawing_spec.specs.Members.{In, All}
-use Rattle.drawing_spec.proofs.Members.{all-in, all-map, all-imp}
+use Rattle.lists.specs.Members.{In, All}
+use Rattle.lists.proofs.Members.{all-in, all-map, all-imp}
 use Rattle.drawing_spec.specs.OnGrid.{OnGrid, AtEnds}
 use Rattle.graph_spec.specs.Pieces.{Stroke, strokesOf, usesOf}
 use Rattle.graph_spec.specs.Chain.{squared}
@@ -24,7 +23,7 @@ use Rattle.graph_spec.specs.Count.{sumOver, joint, joining, lies, touche
 use Rattle.graph_spec.specs.Ways.{Inside}
 use Rattle.graph_spec.proofs.Sums.{degree-sum}
 use Rattle.graph_spec.specs.Nodes.{IsNode}
-use Rattle.graph_spec.proofs.Nodes.{Numbered, node-point, uses-numbered, uses-nodes, uses-all}
+use Rattle.graph_spec.proofs.Nodes.{Numbered, uses-numbered, uses-nodes, uses-all}
 use Rattle.graph_spec.proofs.Strokes.{Between, strokes-between, uses-of-all}
 use Rattle.graph_spec.proofs.Between.{sum-none, sum-map, Agrees, nothing, lies-joint, touches-hit, lies-none, touches-none}
 
@@ -53,14 +52,6 @@ module _ (d : Drawing) where
   built-inside =
       each-edge d (λ (e : Edge). (e .a < length (buildGraph d .nodes)) × (e .b < length (buildGraph d .nodes)))
       (all-imp (Between (IsNode (buildGraph d .nodes))) _ (λ s b. (b .from, b .to)) (strokesOf d) built-strokes)
-
-  -- so no edge joins a node to itself
-  pub built-apart : (e : Edge) → In e (buildGraph d .edges) → e .a ≡ e .b → ⊥
-  unfolding edgeOf
-  built-apart =
-      let ns = buildGraph d .nodes in
-      each-edge d (λ (e : Edge). e .a ≡ e .b → ⊥)
-      (all-imp (Between (IsNode ns)) _ (λ s b k. differ (s .from) (s .to) (b .apart) (sym (node-point ns (s .from) (b .from)) ∙ ap (pointAt ns) k ∙ node-point ns (s .to) (b .to))) (strokesOf d) built-strokes)
 
   -- ---- counts
 

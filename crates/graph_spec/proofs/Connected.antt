@@ -4,7 +4,7 @@ use mathlib.Core.List.{List}
 use Prim.Native.Nat.{ℕ, _<_}
 use Rattle.graph_spec.specs.Graph.{Edge}
 use Rattle.graph_spec.specs.Ways.{Joins, Joined, Inside, Reach, here, on}
-use Rattle.drawing_spec.specs.Members.{In}
+use Rattle.lists.specs.Members.{In}
 
 pub joins-sym : (e : Edge) (u v : ℕ) → Joins e u v → Joins e v u
 joins-sym e u v (inl p) = inr p

@@ -1,5 +1,5 @@
 -- A node's edges: each of them is an edge with the node as an end, and every edge with the node as an end is among them.
-use mathlib.Core.Path.{_≡_, refl, sym}
+use mathlib.Core.Path.{_≡_, refl, sym, _∙_}
 use mathlib.Core.Logic.{_⊎_, inl, inr}
 use mathlib.Core.List.{List, [], _∷_}
 use mathlib.Core.Bool.{Bool, true, false}
@@ -9,19 +9,24 @@ use lib.ListN.{length, getD}
 use lib.Dec.{eqb}
 use lib.Ieee.{nan}
 use borrow.Author.Tests.{eqb-true, eq-eqb}
-use Rattle.drawing_spec.proofs.Members.{either}
+use Rattle.lists.proofs.Members.{either, in-at}
 use Rattle.graph_spec.specs.Graph.{Edge, edge, Arc, newestFirst, edgesAt}
 use Rattle.graph_spec.specs.Ways.{Joins, Joined}
-use Rattle.drawing_spec.specs.Members.{In}
+use Rattle.lists.specs.Members.{In}
 
 -- the edge with the number i; past the last, some edge
 abbrev pub edgeAt : List Edge → ℕ → Edge
 edgeAt es i = getD es i (edge 0 0 nan)
 
 pub edgeAt-in : (es : List Edge) (i : ℕ) → i < length es → In (edgeAt es i) es
-edgeAt-in [] i h = absurd (not-suc-le-zero h)
-edgeAt-in (e ∷ es) zero h = inl refl
-edgeAt-in (e ∷ es) (suc i) h = inr (edgeAt-in es i (le-of-suc-le-suc h))
+edgeAt-in es i h = in-at es i (edge 0 0 nan) h
+
+-- an edge joins a node with one other
+pub other-end : (e : Edge) (u v w : ℕ) → Joins e u v → Joins e u w → v ≡ w
+other-end e u v w (inl p) (inl q) = sym (p .1) ∙ q .1
+other-end e u v w (inl p) (inr q) = sym (p .1) ∙ q .1 ∙ sym (p .0) ∙ q .0
+other-end e u v w (inr p) (inl q) = sym (p .0) ∙ q .0 ∙ sym (p .1) ∙ q .1
+other-end e u v w (inr p) (inr q) = sym (p .0) ∙ q .0
 
 -- the number of an edge
 pub record NumberOf (es : List Edge) (e : Edge) : Type 0 where

@@ -4,7 +4,6 @@ use mathlib.Core.List.{List, [], _∷_, _++_, map, reverse, reverseAux}
 use Prim.Native.Nat.{ℕ, _+_}
 use native.Mathlib.Nat.{zero-add, add-zero}
 use native.Mathlib.Omega.{arith}
-use Rattle.drawing_spec.specs.Members.{All}
 use Rattle.graph_spec.specs.Count.{stepSum, lineSum, lastFrom}
 
 -- ---- one line after another
@@ -52,10 +51,3 @@ runs-reverseAux x (y ∷ xs) before = runs-reverseAux y xs (x ∷ before)
 pub runs-reverse : {A : Type 0} (x : A) (xs : List A) → Runs (lastFrom x xs) x (reverse (x ∷ xs))
 unfolding lastFrom
 runs-reverse x xs = runs-reverseAux x xs []
-
-all-reverseAux : {A : Type 0} (P : A → Type 0) (xs before : List A) → All P xs → All P before → All P (reverseAux xs before)
-all-reverseAux P [] before p q = q
-all-reverseAux P (x ∷ xs) before p q = all-reverseAux P xs (x ∷ before) (p .1) (p .0, q)
-
-pub all-reverse : {A : Type 0} (P : A → Type 0) (line : List A) → All P line → All P (reverse line)
-all-reverse P line p = all-reverseAux P line [] p tt

@@ -12,8 +12,8 @@ use lib.Dec.{eqb}
 use borrow.Author.Tests.{lt-ltb, le-ltb, eq-eqb, ne-eqb}
 use Rattle.drawing_spec.specs.Drawing.{Point, same}
 use Rattle.drawing_spec.proofs.Same.{same-true, same-refl, same-false, differ}
-use Rattle.drawing_spec.specs.Members.{All}
-use Rattle.drawing_spec.proofs.Members.{all-append}
+use Rattle.lists.specs.Members.{All}
+use Rattle.lists.proofs.Members.{all-append}
 use Rattle.graph_spec.specs.Graph.{find, nodeOf, pointAt, getOrInsert, firstUses}
 use Rattle.graph_spec.specs.Nodes.{IsNode}
 
@@ -112,7 +112,7 @@ added ns p N h u l = elim (decLe (suc u) (length ns)) [ yes i ↦ old i | no i �
 
 module _ (ns : List Point) (p : Point) where
   -- the nodes stay as they are where p is one of them, and otherwise p comes last
-  inserted : (Q : List Point → Type 0) → (IsNode ns p → Q ns) → (length ns ≤ nodeOf ns p → Q (ns ++ (p ∷ []))) → Q (getOrInsert ns p)
+  pub inserted : (Q : List Point → Type 0) → (IsNode ns p → Q ns) → (length ns ≤ nodeOf ns p → Q (ns ++ (p ∷ []))) → Q (getOrInsert ns p)
   unfolding getOrInsert
   inserted Q old new =
       elim (decLe (suc (nodeOf ns p)) (length ns)) [
@@ -123,10 +123,10 @@ module _ (ns : List Point) (p : Point) where
   insert-numbered : Numbered ns → Numbered (getOrInsert ns p)
   insert-numbered N = inserted Numbered (λ h. N) (added ns p N)
 
-  insert-node : IsNode (getOrInsert ns p) p
+  pub insert-node : IsNode (getOrInsert ns p) p
   insert-node = inserted (λ (ms : List Point). IsNode ms p) (λ h. h) (λ h. omega (arith, behind ns p h, length-append ns (p ∷ [])))
 
-  insert-keeps : (q : Point) → IsNode ns q → IsNode (getOrInsert ns p) q
+  pub insert-keeps : (q : Point) → IsNode ns q → IsNode (getOrInsert ns p) q
   insert-keeps q i = inserted (λ (ms : List Point). IsNode ms q) (λ h. i) (λ h. omega (arith, front ns (p ∷ []) q i, length-append ns (p ∷ [])))
 
   insert-all : (P : Point → Type 0) → All P ns → P p → All P (getOrInsert ns p)

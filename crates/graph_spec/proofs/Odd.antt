@@ -8,11 +8,11 @@ use native.Mathlib.Nat.{lt-of-not-le}
 use native.Mathlib.Decide.{ℕ-discrete}
 use native.Mathlib.Omega.{arith}
 use borrow.Author.Tests.{eqb-true, eq-eqb}
-use Rattle.drawing_spec.proofs.Members.{either}
+use Rattle.lists.proofs.Members.{either}
 use Rattle.graph_spec.specs.Graph.{Edge}
 use Rattle.graph_spec.specs.Odd.{degree, isOdd, oddFrom, oddNodes}
 use Rattle.graph_spec.specs.Ways.{Inside}
-use Rattle.drawing_spec.specs.Members.{In}
+use Rattle.lists.specs.Members.{In}
 use Rattle.graph_spec.proofs.Sums.{hit-other}
 
 -- v is one of the n nodes from u on, and odd

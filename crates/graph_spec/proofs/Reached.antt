@@ -8,8 +8,9 @@ use native.Mathlib.Nat.{not-suc-le-zero, le-of-suc-le-suc}
 use native.Mathlib.Omega.{arith}
 use lib.ListN.{length, getD, set, replicate, length-set, length-replicate}
 use lib.Seq.{getD-set-same}
-use Rattle.drawing_spec.specs.Members.{In, All}
-use Rattle.drawing_spec.proofs.Members.{all-in, set-cases, getD-same}
+use Rattle.lists.specs.Members.{In, All}
+use Rattle.lists.proofs.Members.{all-in}
+use Rattle.lists.proofs.Elements.{set-cases, getD-same, set-keeps}
 use Rattle.graph_spec.specs.Graph.{Edge}
 use Rattle.graph_spec.specs.Odd.{one}
 use Rattle.graph_spec.specs.Count.{sumOver}
@@ -52,9 +53,6 @@ started n = length-set (replicate n false) 0 true ∙ length-replicate n false
 
 -- ---- every node that can be reached is marked: each sweep marks one more, or the marks are closed under edges, and there are only n to mark
 
-set-keeps : (ms : List Bool) (u v : ℕ) → Marked ms v → Marked (set ms u true) v
-set-keeps ms u v m = elim (set-cases ms u true false v) [ inl p ↦ p .1 | inr e ↦ e ∙ m ]
-
 sweep-keeps : (es : List Edge) (ms : List Bool) (v : ℕ) → Marked ms v → Marked (sweep es ms) v
 unfolding sweep
 sweep-keeps [] ms v m = m
@@ -63,7 +61,7 @@ sweep-keeps (e ∷ es) ms v m =
     sweep-keeps es (spread n (e .b) (e .a)) v (kept n (e .b) (e .a) (kept ms (e .a) (e .b) m))
   where
     kept : (ms : List Bool) (u w : ℕ) → Marked ms v → Marked (spread ms u w) v
-    kept ms u w m = spread-case ms u w (λ (k : List Bool). Marked k v) m (λ h. set-keeps ms w v m)
+    kept ms u w m = spread-case ms u w (λ (k : List Bool). Marked k v) m (λ h. set-keeps ms w true false v m)
 
 sweeps-keep : (k : ℕ) (es : List Edge) (ms : List Bool) (v : ℕ) → Marked ms v → Marked (sweeps k es ms) v
 unfolding sweeps

@@ -8,8 +8,8 @@ use native.Mathlib.Omega.{arith}
 use lib.Dec.{eqb, leb}
 use Rattle.drawing_spec.specs.Drawing.{Point, same, End, Link, Drawing}
 use Rattle.drawing_spec.proofs.Same.{same-true, differ}
-use Rattle.drawing_spec.specs.Members.{All}
-use Rattle.drawing_spec.proofs.Members.{either, all-append, all-front, all-back}
+use Rattle.lists.specs.Members.{All}
+use Rattle.lists.proofs.Members.{either, all-append, all-front, all-back}
 use Rattle.drawing_spec.specs.OnGrid.{AtEnds}
 use Rattle.graph_spec.specs.Chain.{squared, naming, splits, insert, sort, inner, changes, distinct, chain}
 use Rattle.graph_spec.specs.Pieces.{Stroke, stroke, pieces, linePieces, lineUses, piecesFrom, usesFrom, piecesOf, linkStrokes, linksOf, strokesOf, linkUses, usesOf}
@@ -120,7 +120,7 @@ module _ (P : Point → Type 0) where
   insert-all a p [] h u = (h, tt)
   insert-all a p (q ∷ qs) h u = either (All P) (p ∷ q ∷ qs) (q ∷ insert a p qs) (h, u) (u .0, insert-all a p qs h (u .1)) (leb (squared a p) (squared a q))
 
-  sort-all : (a : Point) (ps : List Point) → All P ps → All P (sort a ps)
+  pub sort-all : (a : Point) (ps : List Point) → All P ps → All P (sort a ps)
   unfolding sort
   sort-all a [] u = tt
   sort-all a (p ∷ ps) u = insert-all a p (sort a ps) (u .0) (sort-all a ps (u .1))

@@ -5,7 +5,7 @@ use Prim.Native.Nat.{ℕ, _^_, _≤_, _<_}
 use lib.IntN.{pos, negsuc}
 use lib.Ieee.{Float, fin, binary64}
 use Rattle.sums.specs.Key.{Nonneg, key}
-use Rattle.drawing_spec.specs.Members.{In}
+use Rattle.lists.specs.Members.{In}
 use Rattle.graph_spec.specs.Graph.{Edge}
 use Rattle.graph_spec.specs.Ways.{Inside}
 

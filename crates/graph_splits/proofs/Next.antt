@@ -1,6 +1,6 @@
 -- Laws of specs/Next.
-use mathlib.Core.Path.{_≡_, refl, sym, ap, subst, _∙_}
-use mathlib.Core.Bool.{Bool, true, false, _&&_, not}
+use mathlib.Core.Path.{_≡_, refl, sym, ap, _∙_}
+use mathlib.Core.Bool.{Bool, true, false, _&&_, not, cond}
 use mathlib.Core.List.{List, [], _∷_, _++_}
 use Prim.Native.Nat.{ℕ, zero, suc, _+_, _-_, _<_}
 use native.Mathlib.Omega.{arith}
@@ -10,7 +10,6 @@ use borrow.Author.Tests.{eq-eqb, ne-eqb, not-true, not-false}
 use Rattle.drawing_spec.proofs.Same.{both}
 use Rattle.drawing_spec.specs.Drawing.{Point, same, Link}
 use Rattle.graph_spec.specs.Chain.{inner, changes, distinct, chain, sort, splits}
-use Rattle.graph_splits.specs.Buffer.{pick}
 use Rattle.graph_splits.specs.Next.{at, keeps, nextSplit}
 
 -- ---- laws for the code
@@ -38,14 +37,14 @@ module _ (xs ys : List ℕ) (a b l : Point) where
   pub next-here : (fuel i : ℕ) → 0 < fuel → keeps a b l (at (getD xs i 0) (getD ys i 0)) ≡ true → nextSplit fuel xs ys a b l i ≡ i
   unfolding nextSplit
   next-here zero i f h = absurd (omega arith)
-  next-here (suc fuel) i f h = ap (λ (t : Bool). pick t i (nextSplit fuel xs ys a b l (i + 1))) h
+  next-here (suc fuel) i f h = ap (λ (t : Bool). cond t i (nextSplit fuel xs ys a b l (i + 1))) h
 
   pub next-on : (fuel i r : ℕ) → 0 < fuel → keeps a b l (at (getD xs i 0) (getD ys i 0)) ≡ false → nextSplit fuel xs ys a b l i ≡ r → nextSplit (fuel - 1) xs ys a b l (i + 1) ≡ r
   unfolding nextSplit
   next-on zero i r f h e = absurd (omega arith)
   next-on (suc fuel) i r f h e =
       let less : suc fuel - 1 ≡ fuel = omega arith in
-      ap (λ (k : ℕ). nextSplit k xs ys a b l (i + 1)) less ∙ sym (ap (λ (t : Bool). pick t i (nextSplit fuel xs ys a b l (i + 1))) h) ∙ e
+      ap (λ (k : ℕ). nextSplit k xs ys a b l (i + 1)) less ∙ sym (ap (λ (t : Bool). cond t i (nextSplit fuel xs ys a b l (i + 1))) h) ∙ e
 
   pub next-end : (fuel i : ℕ) → fuel ≡ 0 → nextSplit fuel xs ys a b l i ≡ i
   unfolding nextSplit

@@ -1,6 +1,6 @@
 -- Laws of specs/Trace.
 use mathlib.Core.Path.{_≡_, sym, ap, _∙_}
-use mathlib.Core.Bool.{Bool, true, false}
+use mathlib.Core.Bool.{Bool, true, false, cond}
 use mathlib.Core.List.{List, [], _∷_, _++_, map, append-nil}
 use Prim.Native.Nat.{ℕ, _+_}
 use lib.ListN.{length, length-append}
@@ -12,18 +12,18 @@ use Rattle.graph_spec.specs.Chain.{squared}
 use Rattle.graph_spec.specs.Graph.{Edge, edgeOf, nodeOf}
 use Rattle.graph_adjacency.specs.Lists.{Adjacency, push, lists}
 use Rattle.graph_adjacency.proofs.Follow.{lists-push}
-use Rattle.graph_strokes.specs.Trace.{drawn, drawnAs, pickDrawn}
+use Rattle.graph_strokes.specs.Trace.{drawn, drawnAs}
 
 module _ (m u v : ℕ) (p q : Point) (g : Adjacency) where
   pub drawn-nothing : (t : Bool) → t ≡ same p q → t ≡ true → drawnAs m g ≡ drawn m u v p q g
   unfolding drawn
-  drawn-nothing t e h = ap (λ (b : Bool). pickDrawn b (drawnAs m g) (drawnAs (m + 1) (push m u v (lengthOf (squared p q)) g))) (sym h ∙ e)
+  drawn-nothing t e h = ap (λ (b : Bool). cond b (drawnAs m g) (drawnAs (m + 1) (push m u v (lengthOf (squared p q)) g))) (sym h ∙ e)
 
   pub drawn-edge : (t : Bool) → t ≡ same p q → t ≡ false → (n : ℕ) → n ≡ squared p q → (w : Float) → w ≡ lengthOf n → (g' : Adjacency) → g' ≡ push m u v w g → drawnAs (m + 1) g' ≡ drawn m u v p q g
   unfolding drawn
   drawn-edge t e h n hn w hw g' hg =
       ap (drawnAs (m + 1)) (hg ∙ ap (λ (x : Float). push m u v x g) (hw ∙ ap lengthOf hn))
-      ∙ ap (λ (b : Bool). pickDrawn b (drawnAs m g) (drawnAs (m + 1) (push m u v (lengthOf (squared p q)) g))) (sym h ∙ e)
+      ∙ ap (λ (b : Bool). cond b (drawnAs m g) (drawnAs (m + 1) (push m u v (lengthOf (squared p q)) g))) (sym h ∙ e)
 
 -- ---- on the graph's edges it is the edge of the stroke, where there is one
 
@@ -32,7 +32,7 @@ pub drawn-lists : (ns : List Point) (es : List Edge) (p q : Point)
 unfolding drawn pieces edgeOf
 drawn-lists ns es p q = go (same p q)
   where
-    go : (t : Bool) → pickDrawn t (drawnAs (length es) (lists es)) (drawnAs (length es + 1) (push (length es) (nodeOf ns p) (nodeOf ns q) (lengthOf (squared p q)) (lists es)))
+    go : (t : Bool) → cond t (drawnAs (length es) (lists es)) (drawnAs (length es + 1) (push (length es) (nodeOf ns p) (nodeOf ns q) (lengthOf (squared p q)) (lists es)))
         ≡ drawnAs (length (es ++ map (edgeOf ns) (elim t [ true ↦ [] | false ↦ stroke p q ∷ [] ]))) (lists (es ++ map (edgeOf ns) (elim t [ true ↦ [] | false ↦ stroke p q ∷ [] ])))
     go true = ap (λ (fs : List Edge). drawnAs (length fs) (lists fs)) (sym (append-nil es))
     go false =

@@ -1,5 +1,5 @@
 -- A stroke's edge pushed onto the edges, unless it leads from a point to itself. Assumes nothing.
-use mathlib.Core.Bool.{Bool, true, false}
+use mathlib.Core.Bool.{cond}
 use Prim.Native.Nat.{ℕ, _+_}
 use Rattle.length.specs.Root.{lengthOf}
 use Rattle.drawing_spec.specs.Drawing.{Point, same}
@@ -14,10 +14,6 @@ pub record Drawn : Type 0 where
 abbrev pub drawnAs : ℕ → Adjacency → Drawn
 drawnAs m g = record { count = m; edges = g }
 
-abbrev pub pickDrawn : Bool → Drawn → Drawn → Drawn
-pickDrawn true s t = s
-pickDrawn false s t = t
-
 -- with the edge from node u at p to node v at q, as number m; nothing is drawn from a point to itself
 unfoldable pub drawn : ℕ → ℕ → ℕ → Point → Point → Adjacency → Drawn
-drawn m u v p q g = pickDrawn (same p q) (drawnAs m g) (drawnAs (m + 1) (push m u v (lengthOf (squared p q)) g))
+drawn m u v p q g = cond (same p q) (drawnAs m g) (drawnAs (m + 1) (push m u v (lengthOf (squared p q)) g))

@@ -14,7 +14,7 @@ use lib.Ieee.Exact.{HasValue, round-exact}
 use lib.Ieee.Bits.{ofBits-toBits, toBits-ofBits}
 use borrow.Author.Tests.{lt-ltb, le-ltb}
 use Rattle.grid.specs.declared.Place.the-variants.{On}
-use Rattle.grid.specs.Grid.{gridExponent, reach, origin, originOfGrid, placeOfSteps, placeOnGrid, readOnGrid, readPlace, gap, coordinateOnGrid, coordinate, writeOnGrid, writePlace}
+use Rattle.grid.specs.Grid.{gridExponent, reach, origin, originOfGrid, placeOfSteps, placeOnGrid, placeOf, readOnGrid, readPlace, gap, coordinateOnGrid, coordinate, writeOnGrid, writePlace}
 use Rattle.grid.proofs.Same.{divided, scaled, not-negative-zero, same-quotient, same-steps, place-of-value, at-place, passed}
 
 -- ---- the definitions, opened one step
@@ -68,7 +68,7 @@ exact-fraction f s n g G h =
     round-exact f s n (2 ^ g) n j (pow-pos g) h (lt-of-lt-of-le (shl-lt (prec f) j h) (pow-mono (omega (arith, room-above f))))
     (ap (λ (x : ℕ). n * x) (split (low f) g G) ∙ sym (mul-assoc n (2 ^ j) (2 ^ g)))
 
-coordinate-fits : (g p : ℕ) → T (fits binary64 (coordinateOnGrid g p))
+pub coordinate-fits : (g p : ℕ) → T (fits binary64 (coordinateOnGrid g p))
 coordinate-fits g p = subst (λ (x : Float). T (fits binary64 x)) (sym (coordinate-is g p)) (round-fits binary64 (ltb p (originOfGrid g)) (gap p (originOfGrid g)) (2 ^ g))
 
 pub coordinate-value : (g p : ℕ) → g ≤ 40 → gap p (originOfGrid g) < 2 ^ 53 → HasValue (coordinateOnGrid g p) (ltb p (originOfGrid g)) (gap p (originOfGrid g)) (2 ^ g)
@@ -164,3 +164,8 @@ one-pattern b d p hb hd eb ed = sym (write-read b p hb eb .1) ∙ write-read d p
 -- and the float that it stands for is the coordinate at that place
 pub float-read : (b p : ℕ) → b < 2 ^ 64 → readPlace b ≡ On p → ofBits binary64 b ≡ coordinate p
 float-read b p h e = ap (λ (x : ℕ). ofBits binary64 x) (sym (write-read b p h e .1) ∙ write-is gridExponent p) ∙ ofBits-toBits binary64 (coordinate p) (coordinate-fits gridExponent p)
+
+pub place-coordinate : (p : ℕ) → p ≤ 2 * origin → placeOf (coordinate p) ≡ On p
+place-coordinate p h =
+    ap placeOf (sym (ofBits-toBits binary64 (coordinate p) (coordinate-fits gridExponent p)) ∙ ap (ofBits binary64) (sym (write-is gridExponent p)))
+    ∙ sym (read-is gridExponent (writePlace p)) ∙ read-write p h

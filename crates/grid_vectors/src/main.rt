@@ -1,7 +1,7 @@
 // Replays tools/grid_vectors.py's patterns against `grid`: each is read, and where it is on the grid
 // its place is written back. It prints how many there were and how many came out otherwise.
 use grid::Place;
-ghost use Prim.Native.Nat.{_+_, _≤_, _<_};
+ghost use Prim.Native.Nat.{_+_, _≤_};
 ghost use lib.ListN.{length};
 
 // A line of the file: a kind, a blank, 16 hex digits, a blank, 8 hex digits, a line feed.
@@ -9,41 +9,6 @@ const LINE: usize = 28;
 
 // What the file has in the place of a place where a pattern is not on the grid.
 const OFF: u64 = 0xffff_ffff;
-
-// The value of a hex digit, and 0 of any other byte.
-fn digit(c: u8) -> u64
-    ensures { λ r. ⌜ r < 16 ⌝ }
-{
-    if c < b'0' {
-        return 0;
-    }
-    if c <= b'9' {
-        return (c - b'0') as u64;
-    }
-    if c < b'a' {
-        return 0;
-    }
-    if c <= b'f' {
-        return (c - b'a') as u64 + 10;
-    }
-    0
-}
-
-// The number that `count` hex digits say from index `at` on, up to the end of the slice.
-fn number(s: &[u8], at: usize, count: usize) -> u64 {
-    let mut value: u64 = 0;
-    let mut i = at;
-    let mut left = count;
-    while left > 0 {
-        if i >= s.len() {
-            return value;
-        }
-        value = value % 0x1000_0000_0000_0000 * 16 + digit(s[i]);
-        i += 1;
-        left -= 1;
-    }
-    value
-}
 
 // Whether a pattern is read as the place that the file says, and that place is written as the pattern.
 fn read_right(bits: u64, place: u64) -> bool {
@@ -71,8 +36,8 @@ fn wrong(s: &[u8], at: usize) -> u64
     requires { ⌜ at + 28 ≤ length (now s) ⌝ }
     ensures { λ r. ⌜ r ≤ 1 ⌝ }
 {
-    let bits = number(s, at + 2, 16);
-    let place = number(s, at + 19, 8);
+    let bits = test_data::hex(s, at + 2, 16);
+    let place = test_data::hex(s, at + 19, 8);
     if s[at] == b'r' {
         if read_right(bits, place) {
             return 0;

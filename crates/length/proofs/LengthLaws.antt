@@ -1,6 +1,5 @@
 -- What the planner uses of lengths, for every u64 that is a number of squared grid steps, on a grid of 2 ^ e steps to a unit. A length is the f64 that is nearest to the
--- exact one. Lengths are in the order of the whole numbers that they are roots of, so those may be compared in their place. No length is negative or infinite, and
--- zero is the length only from a point to itself.
+-- exact one. Lengths are in the order of the whole numbers that they are roots of, so those may be compared in their place. No length is negative or infinite.
 use mathlib.Core.Path.{_≡_, refl, sym, _∙_}
 use mathlib.Core.Bool.{false, not}
 use Prim.Native.Nat.{ℕ, _*_, _^_, _≤_, _<_, zero-le}
@@ -21,7 +20,7 @@ use Rattle.grid.specs.Grid.{gap}
 use Rattle.length.specs.Root.{square, squaredOf, rootOver, lengthAt, lengthOf}
 use Rattle.length.specs.Nearest.{NearestRoot}
 use Rattle.length.proofs.Nearest.{nearest-mono}
-use Rattle.length.proofs.Proved.{root-over-nearest, root-over-nonneg, root-over-finite, root-over-pos, root-over-zero}
+use Rattle.length.proofs.Proved.{root-over-nearest, root-over-nonneg, root-over-finite, root-over-zero}
 use Rattle.length.proofs.Order.{root-over-order}
 
 pub short : (n : ℕ) → n < 2 ^ 64 → size n ≤ 2 * prec binary64
@@ -52,9 +51,6 @@ module _ (e : ℕ) (small : e ≤ prec binary64) where
 
   pub length-finite : (n : ℕ) → n < 2 ^ 64 → T (finite (lengthAt e n))
   length-finite n h = root-over-finite binary64 e n (short n h) small
-
-  pub length-pos : (n : ℕ) → 0 < n → n < 2 ^ 64 → 0 < key binary64 (lengthAt e n)
-  length-pos n p h = root-over-pos binary64 e n (short n h) small p
 
   pub length-mono : (n m : ℕ) → n ≤ m → m < 2 ^ 64 → key binary64 (lengthAt e n) ≤ key binary64 (lengthAt e m)
   length-mono n m l h =

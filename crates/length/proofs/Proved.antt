@@ -13,11 +13,11 @@ use lib.Ieee.Scale.{finite}
 use Rattle.sums.specs.Key.{Nonneg, key}
 use Rattle.sums.proofs.KeyLaws.{key-digits, key-inj, value-finite}
 use Rattle.sums.proofs.Sum.{round-nonneg, plusZero, zero-nonneg, zero-key}
-use Rattle.length.specs.Root.{square, wholeRoot, places, significand, root, rootOver}
+use Rattle.length.specs.Root.{square, wholeRoot, places, significand, rootOver}
 use Rattle.length.specs.Nearest.{NearestRoot, exactSquared, middleSquared}
 use Rattle.length.proofs.Whole.{IsNearRoot}
 use Rattle.length.proofs.DigitsLaws.{four-pos, significand-near, significand-ge, significand-zero, whole-ge, next-step}
-use Rattle.length.proofs.Value.{scaled, step, scaled-value, scaled-key, in-steps, step-pos, steps-pos, root-is, root-over-is}
+use Rattle.length.proofs.Value.{scaled, step, scaled-value, scaled-key, in-steps, step-pos, steps-pos, root-over-is}
 
 square-le : {a b : ℕ} → a ≤ b → square a ≤ square b
 square-le h = mul-le-mul h h
@@ -90,13 +90,10 @@ module _ (f : Format) (n : ℕ) (short : size n ≤ 2 * prec f) (positive : 0 < 
         negative = λ y q. rw K (negative y);
       }
 
-pub root-nearest : (f : Format) (n : ℕ) → 0 < n → size n ≤ 2 * prec f → NearestRoot f 0 n (root f n)
-root-nearest f n positive short = rw (root-is f n) (scaled-nearest f n short positive 0 zero-le)
-
 pub root-over-nearest : (f : Format) (e n : ℕ) → 0 < n → size n ≤ 2 * prec f → e ≤ prec f → NearestRoot f e n (rootOver f e n)
 root-over-nearest f e n positive short small = rw (root-over-is f n short e small) (scaled-nearest f n short positive e small)
 
--- ---- never negative, never infinite, and zero for 0 alone
+-- ---- never negative, never infinite, and zero for 0
 module _ (f : Format) (e n : ℕ) (short : size n ≤ 2 * prec f) (small : e ≤ prec f) where
   pub root-over-nonneg : Nonneg f (rootOver f e n)
   root-over-nonneg = rw (root-over-is f n short e small) (round-nonneg f (significand f n) (2 ^ (places f n + e)))
@@ -106,9 +103,6 @@ module _ (f : Format) (e n : ℕ) (short : size n ≤ 2 * prec f) (small : e ≤
 
   pub root-over-key : key f (rootOver f e n) ≡ significand f n * step f e n
   root-over-key = rw (root-over-is f n short e small) (scaled-key f n short e small)
-
-  pub root-over-pos : 0 < n → 0 < key f (rootOver f e n)
-  root-over-pos p = rw root-over-key (mul-pos (lt-of-lt-of-le (pow-pos (prec f - 1)) (significand-ge f n short p)) (step-pos f e n))
 
 pub root-over-zero : (f : Format) (e : ℕ) → e ≤ prec f → rootOver f e 0 ≡ plusZero
 root-over-zero f e small =

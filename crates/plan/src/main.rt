@@ -1,7 +1,7 @@
 // Reads a drawing file on standard input and prints its plan, with tables for 12 odd nodes and an output for
 // 4,001 points.
 use planner_graph::Answer;
-ghost use Prim.Native.Nat.{_+_, _*_, _≤_, _<_};
+ghost use Prim.Native.Nat.{_+_, _≤_};
 ghost use lib.ListN.{length};
 ghost use lib.Ieee.{binary64};
 ghost use Rattle.sums.specs.Key.{Nonneg};
@@ -24,40 +24,6 @@ const ORIGIN: u32 = 4_194_304;
 
 fn print(text: &[u8]) {
     io::write_all(1, text);
-}
-
-// One digit of 16.
-fn print_digit(d: usize)
-    requires { ⌜ d < 16 ⌝ }
-{
-    let digits: [u8; 16] = [
-        48,
-        49,
-        50,
-        51,
-        52,
-        53,
-        54,
-        55,
-        56,
-        57,
-        97,
-        98,
-        99,
-        100,
-        101,
-        102,
-    ];
-    let one = [digits[d]; 1];
-    io::write_all(1, &one);
-}
-
-fn print_hex(bits: u64) {
-    let mut left: u32 = 16;
-    while left > 0 {
-        left -= 1;
-        print_digit(((bits >> (4 * left)) % 16) as usize);
-    }
 }
 
 fn bits_of(x: f64) -> u64
@@ -100,26 +66,33 @@ fn print_points(output: &[u8], count: usize) {
     }
 }
 
+fn print_refusal(number: u8) {
+    print(b"refused ");
+    io::print_decimal(1, number as u64);
+    print(b"\n");
+}
+
+// The retrace's bits, and the counts.
+fn print_counts(bits: u64, before: usize, after: usize, count: usize) {
+    print(b"ok ");
+    io::print_hex(1, bits, 16);
+    print(b" ");
+    io::print_decimal(1, before as u64);
+    print(b" ");
+    io::print_decimal(1, after as u64);
+    print(b" ");
+    io::print_decimal(1, count as u64);
+    print(b"\n");
+}
+
 fn print_answer(answer: Answer, output: &[u8])
     requires { ⌜ Number answer ⌝ }
 {
     match answer {
-        Answer::Refused(number) => {
-            print(b"refused ");
-            io::print_decimal(1, number as u64);
-            print(b"\n");
-        }
+        Answer::Refused(number) => print_refusal(number),
         Answer::Planned(retrace, before, after, count) => {
             let bits = bits_of(retrace);
-            print(b"ok ");
-            print_hex(bits);
-            print(b" ");
-            io::print_decimal(1, before as u64);
-            print(b" ");
-            io::print_decimal(1, after as u64);
-            print(b" ");
-            io::print_decimal(1, count as u64);
-            print(b"\n");
+            print_counts(bits, before, after, count);
             print_points(output, count);
         }
     }

@@ -1,7 +1,7 @@
 -- Laws of specs/Exported: the struct says what the planner's answer says.
 use mathlib.Core.Path.{_≡_, refl, sym, ap, subst, _∙_}
 use mathlib.Core.List.{List}
-use Prim.Native.Nat.{ℕ, _<_}
+use Prim.Native.Nat.{ℕ}
 use native.Mathlib.Omega.{arith}
 use lib.Ieee.{Float, binary64}
 use lib.Ieee.Bits.{ofBits-toBits}
@@ -13,7 +13,6 @@ use Rattle.planner_graph.specs.Answer.{answerOf, Number}
 use Rattle.planner_graph.specs.declared.Answer as code
 use Rattle.planner_graph.specs.declared.Answer.the-variants.{Refused, Planned}
 use Rattle.planner.specs.Answer.{call, after, DemandMet}
-use Rattle.planner_c.specs.declared.Outcome.{Outcome}
 use Rattle.planner_c.specs.Exported.{exported}
 
 -- the bits of a retrace are those of its length

@@ -10,12 +10,12 @@ use lib.Ieee.{Float, binary64, toBits}
 use Rattle.limits.specs.Limits.{mostOdd, mostEdges, refusedOdd, refusedTables, refusedEdges, refusedOutput}
 use Rattle.sums.specs.Key.{Nonneg}
 use Rattle.drawing_spec.specs.Drawing.{Point, Settings}
-use Rattle.drawing_spec.specs.Refusal.{Condition, condition, Verdict, refused, accepted, verdict}
+use Rattle.drawing_spec.specs.Refusal.{condition, refused, accepted, verdict}
 use Rattle.graph_spec.specs.Graph.{Edge, Graph}
 use Rattle.graph_spec.specs.Odd.{oddNodes}
 use Rattle.graph_spec.specs.Reach.{allReached}
 use Rattle.graph_spec.specs.Weights.{Searchable}
-use Rattle.repair_spec.specs.Repair.{Repair, Repairing, stopped, repaired, tooManyOdd, tableShort, fixParity}
+use Rattle.repair_spec.specs.Repair.{Repair, Repairing, stopped, repaired, tooManyOdd, tableShort}
 use Rattle.repair_pairs.specs.Refusal.{tableConditions}
 use Rattle.repair_retrace.specs.Outcome.{outcome}
 use Rattle.repair.specs.Parity.{Value, refusal, values, valueOf, parityFor}

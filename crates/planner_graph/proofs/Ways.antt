@@ -2,20 +2,19 @@
 use mathlib.Core.Path.{_≡_, refl, sym, ap, subst, _∙_}
 use mathlib.Core.List.{List}
 use mathlib.Core.Bool.{Bool, true, false}
-use Prim.Native.Nat.{ℕ, _+_, _*_}
+use Prim.Native.Nat.{ℕ}
 use native.Mathlib.Omega.{arith}
 use lib.ListN.{length}
-use lib.Dec.{ltb}
 use lib.Ieee.{Float, binary64}
 use Rattle.limits.specs.Limits.{mostEdges, refusedApart, refusedEdges, refusedOutput}
 use Rattle.sums.specs.Key.{Nonneg}
 use Rattle.drawing_spec.specs.Drawing.{Point}
-use Rattle.graph_spec.specs.Graph.{Edge, Graph}
+use Rattle.graph_spec.specs.Graph.{Graph}
 use Rattle.graph_spec.specs.Reach.{allReached}
 use Rattle.graph_spec.specs.Weights.{Searchable}
 use Rattle.graph_adjacency.specs.Lists.{Adjacency}
-use Rattle.graph_arrays.specs.Arrays.{pointIn, nodesIn, edgesIn, graphIn, EdgesHeld}
-use Rattle.graph_arrays.proofs.Tabulate.{tabulate-length}
+use Rattle.graph_arrays.specs.Arrays.{nodesIn, edgesIn, graphIn, EdgesHeld}
+use Rattle.graph_arrays.proofs.NodeList.{nodes-count}
 use Rattle.file_records.specs.declared.Settings.{Settings}
 use Rattle.file_records.specs.Meaning.{settingsOf}
 use Rattle.repair.specs.Parity as parity
@@ -41,11 +40,8 @@ module _ (t : Settings) (n m : ℕ) (xs ys : List ℕ) (a : Adjacency) (P : Plan
   abbrev l : plan.Lent
   l = lent floats bytes output
 
-  node-count : length (nodesIn n xs ys) ≡ n
-  node-count = tabulate-length (pointIn xs ys) n 0
-
   reached-by : (c : Bool) → b ≡ c → allReached (length (nodesIn n xs ys)) (edgesIn m a) ≡ c
-  reached-by c h = ap (λ (k : ℕ). allReached k (edgesIn m a)) node-count ∙ sym R ∙ h
+  reached-by c h = ap (λ (k : ℕ). allReached k (edgesIn m a)) (nodes-count n xs ys) ∙ sym R ∙ h
 
   pub not-reached : b ≡ false → outcomeOf (Refused refusedApart) output ≡ plan.planGraph g (settingsOf t) l
   not-reached h = sym (plan-apart g (settingsOf t) l (reached-by false h))
@@ -63,7 +59,7 @@ module _ (t : Settings) (n m : ℕ) (xs ys : List ℕ) (a : Adjacency) (P : Plan
 
       pub number : Nonneg binary64 x
       number =
-          mended-number g (settingsOf t) l x before after (edgesIn (r .edges) a') M (subst (λ (k : ℕ). Searchable k (edgesIn m a)) (sym node-count) (P .edges .searchable))
+          mended-number g (settingsOf t) l x before after (edgesIn (r .edges) a') M (subst (λ (k : ℕ). Searchable k (edgesIn m a)) (sym (nodes-count n xs ys)) (P .edges .searchable))
 
       abbrev line : List Point
       line = lineOf (settingsOf t) (nodesIn n xs ys) (edgesIn (r .edges) a')

@@ -1,5 +1,4 @@
 -- What the code's answer says, and what the planner asks of a graph in arrays.
-use mathlib.Core.Path.{_≡_}
 use mathlib.Core.List.{List}
 use Prim.Native.Nat.{ℕ, _≤_}
 use lib.ListN.{length}

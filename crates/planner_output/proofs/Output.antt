@@ -1,6 +1,6 @@
 -- Laws of specs/Output.
 use mathlib.Core.Path.{_≡_, refl, sym, ap, ap₂, _∙_}
-use mathlib.Core.List.{List, [], _∷_, map}
+use mathlib.Core.List.{List, [], _∷_}
 use mathlib.Core.Bool.{Bool, true, false}
 use Prim.Native.Nat.{ℕ, zero, suc, _+_, _*_, _≤_, _<_}
 use native.Mathlib.Omega.{arith}
@@ -11,7 +11,7 @@ use Rattle.planner_spec.specs.LineRecord.{lineRecord, inFront}
 use Rattle.limits.specs.Limits.{mostNodes, lineRoom}
 use Rattle.drawing_spec.specs.Drawing.{Point}
 use Rattle.graph_spec.specs.Graph.{pointAt}
-use Rattle.graph_arrays.specs.Arrays.{pointIn, nodesIn}
+use Rattle.graph_arrays.specs.Arrays.{nodesIn}
 use Rattle.graph_arrays.specs.NodeList.{NodeList, pointsAlong}
 use Rattle.graph_arrays.proofs.NodeList.{point-at}
 use Rattle.record.specs.Written.{pointsIn}

@@ -12,15 +12,15 @@ use lib.Dec.{eqb}
 use borrow.Author.Tests.{eqb-true, eq-eqb}
 use Rattle.limits.specs.Limits.{mostEdges}
 use Rattle.drawing_spec.specs.Drawing.{Point, Settings, closing, same, Drawing}
-use Rattle.drawing_spec.specs.Members.{All}
-use Rattle.drawing_spec.proofs.Members.{all-imp, all-map}
+use Rattle.lists.specs.Members.{All}
+use Rattle.lists.proofs.Members.{all-imp, all-map}
 use Rattle.drawing_spec.proofs.Same.{both}
 use Rattle.graph_spec.specs.Pieces.{Stroke, strokesOf}
 use Rattle.graph_spec.specs.Graph.{Edge, nodeOf, pointAt, buildGraph}
 use Rattle.graph_spec.specs.Odd.{one, hit, degree, oddNodes}
 use Rattle.graph_spec.specs.Count.{sumOver, lineSum, joint, joining, lies, stepsBetween, strokesBetween, touches, strokesAt}
 use Rattle.graph_spec.specs.Ways.{Joins, Joined, Inside, Reach}
-use Rattle.drawing_spec.specs.Members.{In}
+use Rattle.lists.specs.Members.{In}
 use Rattle.graph_spec.proofs.Sums.{joins-joint, other-way}
 use Rattle.graph_spec.proofs.Connected.{joined-more, reach-more}
 use Rattle.graph_spec.proofs.Strokes.{lies-own}

@@ -6,7 +6,7 @@ use Rattle.drawing_spec.specs.Drawing.{Drawing}
 use Rattle.graph_spec.specs.Graph.{buildGraph}
 use Rattle.planner_spec.specs.LineRecord.{lineRecord, inFront}
 use Rattle.planner_spec.specs.Plan.{Lent, Planned, planned, Outcome, drawingIn, lineFor, planDrawing, plan}
-use Rattle.planner_spec.proofs.Plan.{drawing-graph, drawn, file-planned}
+use Rattle.planner_spec.proofs.Plan.{drawn, file-planned}
 
 -- the answers a and b, and the outputs x and y, for what is lent as l and as k
 pub record SameAnswer (l k : Lent) (a b : Planned) (x y : List ℕ) : Type 0 where

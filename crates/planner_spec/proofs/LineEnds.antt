@@ -11,13 +11,13 @@ use lib.ListN.{length}
 use borrow.Author.Tests.{eqb-true, eq-eqb, ne-eqb}
 use Rattle.limits.specs.Limits.{mostEdges}
 use Rattle.drawing_spec.specs.Drawing.{Point, closing, Drawing}
-use Rattle.drawing_spec.specs.Members.{All}
+use Rattle.lists.specs.Members.{All}
 use Rattle.graph_spec.specs.Pieces.{strokesOf}
 use Rattle.graph_spec.specs.Graph.{nodeOf, pointAt, buildGraph}
 use Rattle.graph_spec.specs.Odd.{isOdd, degree, oddNodes}
 use Rattle.graph_spec.specs.Count.{lastFrom, strokesAt}
 use Rattle.graph_spec.specs.Ways.{Reach}
-use Rattle.drawing_spec.specs.Members.{In}
+use Rattle.lists.specs.Members.{In}
 use Rattle.graph_spec.proofs.Odd.{oddNodes-member, even-else}
 use Rattle.graph_spec.proofs.Lines.{Runs, lastFrom-map}
 use Rattle.graph_spec.proofs.Nodes.{node-point, distinct}

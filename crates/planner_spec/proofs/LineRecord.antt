@@ -16,7 +16,7 @@ use Rattle.grid.proofs.Back.{read-write, write-is, coordinate-is}
 use Rattle.drawing_spec.specs.Bytes.{number, bytes}
 use Rattle.drawing_spec.proofs.Back.{number-bytes, bytes-length, drop-bytes}
 use Rattle.drawing_spec.specs.Drawing.{Point}
-use Rattle.drawing_spec.specs.Members.{All}
+use Rattle.lists.specs.Members.{All}
 use Rattle.drawing_spec.specs.OnGrid.{OnGrid}
 use Rattle.drawing_spec.specs.Read.{placeAt, points}
 use Rattle.drawing_spec.proofs.Accepted.{points-one}

@@ -1,16 +1,16 @@
 -- No refusal has the number 0, so a caller in another language can tell a refusal by it.
-use mathlib.Core.Path.{_≡_, refl, sym, ap, subst, _∙_}
+use mathlib.Core.Path.{_≡_, refl, subst}
 use mathlib.Core.List.{List, [], _∷_}
-use mathlib.Core.Bool.{Bool, true, false}
+use mathlib.Core.Bool.{true, false}
 use Prim.Native.Nat.{ℕ, _<_}
 use native.Mathlib.Omega.{arith}
 use lib.Dec.{lit<}
 use Rattle.drawing_spec.specs.Drawing.{Settings}
-use Rattle.drawing_spec.specs.Members.{All}
+use Rattle.lists.specs.Members.{All}
 use Rattle.drawing_spec.specs.Refusal.{Condition, condition, numberOf, Verdict, refused, accepted, verdict}
 use Rattle.drawing_spec.specs.Read.{readConditions}
 use Rattle.graph_spec.specs.Graph.{Graph, buildGraph}
-use Rattle.planner_spec.specs.Plan.{Lent, Outcome, refusal, refuse, accept, planGraph, planDrawing, planConditions, drawingIn, plan}
+use Rattle.planner_spec.specs.Plan.{Lent, Outcome, refusal, refuse, accept, planGraph, planConditions, drawingIn, plan}
 use Rattle.planner_spec.proofs.Plan.{file-refused, file-accepted, drawing-graph}
 
 abbrev Numbered : List Condition → Type 0

@@ -7,8 +7,8 @@ use native.Mathlib.Omega.{arith}
 use lib.ListN.{length}
 use Rattle.limits.specs.Limits.{mostEdges, refusedEdges}
 use Rattle.drawing_spec.specs.Drawing.{Point, Drawing}
-use Rattle.drawing_spec.specs.Members.{All}
-use Rattle.drawing_spec.proofs.Members.{in-all, all-map}
+use Rattle.lists.specs.Members.{All}
+use Rattle.lists.proofs.Members.{in-all, all-map}
 use Rattle.drawing_spec.specs.OnGrid.{OnGrid}
 use Rattle.drawing_spec.specs.Accepted.{InLimits}
 use Rattle.drawing_spec.specs.Refusal.{accepted, verdict}
@@ -21,13 +21,13 @@ use Rattle.graph_spec.specs.Count.{sumOver, lineSum, touches, stepsBetween, str
 use Rattle.graph_spec.specs.Ways.{Reach}
 use Rattle.graph_spec.proofs.Reached.{all-reached}
 use Rattle.graph_spec.proofs.Built.{built-inside, built-on}
-use Rattle.graph_spec.proofs.Few.{counted-few}
-use Rattle.repair_spec.specs.Repair.{Repair, repaired}
+use Rattle.graph_counts.proofs.Nodes.{counted-few}
+use Rattle.repair_spec.specs.Repair.{Repair}
 use Rattle.repair_spec.proofs.Repaired.{Repaired, fixed}
 use Rattle.walk_spec.specs.Line.{lineOf}
 use Rattle.walk_spec.proofs.Orient.{orient-all}
 use Rattle.planner_spec.specs.LineRecord.{inFront, lineRecord, Written}
-use Rattle.planner_spec.specs.Plan.{Lent, Planned, planned, Outcome, drawingIn, repairOf, lineFor, accept, planGraph, planDrawing, plan}
+use Rattle.planner_spec.specs.Plan.{Lent, Planned, Outcome, drawingIn, repairOf, lineFor, planDrawing}
 use Rattle.planner_spec.specs.Words.{retracesIn, copiesBetween, copiesAt, odd, leftOdd}
 use Rattle.planner_spec.proofs.LineRecord.{line-back, record-length}
 use Rattle.planner_spec.proofs.Plan.{line-repaired, drawing-graph, Drawn, drawn, file-planned}
@@ -64,7 +64,7 @@ module _ (d : Drawing) (limits : InLimits d) (lent : Lent) (answer : Planned) (D
   short : 16 * length (line d r) < 2 ^ 32
   short = elim (F .copied .limit) [
     | inl m ↦ omega (arith, m, line-few d r F near)
-    | inr e ↦ omega (arith, line-few d r F near, ap length e, counted-few d (limits .counts))
+    | inr e ↦ omega (arith, line-few d r F near, ap length e, counted-few d (limits .counts) .edges)
   ]
 
   written : Written (line d r) (lent .output) (inFront (lineRecord (line d r)) (lent .output))

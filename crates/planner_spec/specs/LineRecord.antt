@@ -8,7 +8,7 @@ use lib.Dec.{eqb}
 use Rattle.grid.specs.Grid.{writePlace, writeOnGrid}
 use Rattle.drawing_spec.specs.Bytes.{number, bytes}
 use Rattle.drawing_spec.specs.Drawing.{Point}
-use Rattle.drawing_spec.specs.Members.{All}
+use Rattle.lists.specs.Members.{All}
 use Rattle.drawing_spec.specs.OnGrid.{OnGrid}
 use Rattle.drawing_spec.specs.Read.{points}
 

@@ -1,23 +1,12 @@
 -- Bytes stored one behind the other. Assumes nothing.
 use mathlib.Core.Path.{_≡_, refl, sym, ap, _∙_}
-use mathlib.Core.List.{List, [], _∷_, _++_}
+use mathlib.Core.List.{List}
 use Prim.Native.Nat.{ℕ, zero, suc, _+_, _-_, _/_, _%_, _≤_, _<_}
-use native.Mathlib.Nat.{add-zero, add-suc, suc-add}
 use native.Mathlib.Numerals.{add-one}
 use native.Mathlib.Omega.{arith}
 use lib.ListN.{length, set, length-set}
 use lib.Seq.{sets}
 use Rattle.drawing_spec.specs.Bytes.{bytes}
-
--- stored in two parts
-pub sets-append : (l : List ℕ) (i : ℕ) (xs ys : List ℕ) → sets (sets l i xs) (i + length xs) ys ≡ sets l i (xs ++ ys)
-sets-append l i [] ys = ap (λ (k : ℕ). sets l k ys) (add-zero i)
-sets-append l i (x ∷ xs) ys = ap (λ (k : ℕ). sets (sets (set l i x) (suc i) xs) k ys) (add-suc i (length xs) ∙ sym (suc-add i (length xs))) ∙ sets-append (set l i x) (suc i) xs ys
-
-pub bytes-length : (n v : ℕ) → length (bytes n v) ≡ n
-unfolding bytes
-bytes-length zero v = refl
-bytes-length (suc n) v = ap suc (bytes-length n (v / 256))
 
 -- ---- a number's bytes, the lowest first
 

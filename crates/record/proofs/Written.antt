@@ -14,7 +14,8 @@ use Rattle.drawing_spec.specs.Bytes.{bytes}
 use Rattle.planner_spec.specs.LineRecord.{pointBytes, lineRecord, inFront}
 use Rattle.graph_arrays.specs.Arrays.{pointIn}
 use Rattle.graph_arrays.specs.NodeList.{NodeList}
-use Rattle.record.proofs.Stored.{sets-append, bytes-length}
+use Rattle.lists.proofs.Parts.{sets-append}
+use Rattle.drawing_spec.proofs.Back.{bytes-length}
 use Rattle.record.specs.Written.{placeBytes, pointsIn}
 
 place-bytes-length : (x y : ℕ) → length (placeBytes x y) ≡ 16
@@ -38,7 +39,7 @@ pub point-stored : (output out out' : List ℕ) (at x y m n : ℕ) → m ≡ wri
 point-stored output out out' at x y m n hm hn e f =
     f ∙ ap₂ (λ (l : List ℕ) (k : ℕ). sets l (at + 8) (bytes 8 k)) (e ∙ ap (λ (k : ℕ). sets output at (bytes 8 k)) hm) hn
     ∙ ap (λ (k : ℕ). sets (sets output at (bytes 8 (writePlace x))) (at + k) (bytes 8 (writePlace y))) (sym (bytes-length 8 (writePlace x)))
-    ∙ sets-append output at (bytes 8 (writePlace x)) (bytes 8 (writePlace y))
+    ∙ sym (sets-append output at (bytes 8 (writePlace x)) (bytes 8 (writePlace y)))
 
 -- the points that are left from the place i on
 abbrev pub pointsFrom : List ℕ → List ℕ → List ℕ → ℕ → ℕ → List Point
@@ -63,7 +64,7 @@ module _ (xs ys nodes : List ℕ) (count : ℕ) where
         let on : 6 + 16 * (i + 1) ≡ 6 + 16 * i + length (placeBytes (getD xs v 0) (getD ys v 0)) = omega (arith, place-bytes-length (getD xs v 0) (getD ys v 0)) in
         record {
           is =
-              ap₂ (λ (l : List ℕ) (k : ℕ). sets l k (pointBytes rest)) e on ∙ sets-append output (6 + 16 * i) (placeBytes (getD xs v 0) (getD ys v 0)) (pointBytes rest)
+              ap₂ (λ (l : List ℕ) (k : ℕ). sets l k (pointBytes rest)) e on ∙ sym (sets-append output (6 + 16 * i) (placeBytes (getD xs v 0) (getD ys v 0)) (pointBytes rest))
               ∙ ap (sets output (6 + 16 * i)) (sym (points-cons (pointIn xs ys v) rest) ∙ ap pointBytes (sym next)) ∙ w .is;
           long = ap length e ∙ length-sets output (6 + 16 * i) (placeBytes (getD xs v 0) (getD ys v 0)) ∙ w .long;
         }
@@ -86,8 +87,8 @@ module _ (xs ys nodes : List ℕ) (count : ℕ) where
           let two : length (bytes 2 4) ≡ 2 = bytes-length 2 4 in
           let six : length (size ++ bytes 2 4) ≡ 6 = omega (arith, length-append size (bytes 2 4)) in
           let head : headed ≡ sets output₀ 0 (size ++ bytes 2 4) =
-          f ∙ ap₂ (λ (l : List ℕ) (k : ℕ). sets l k (bytes 2 4)) (e ∙ ap (sets output₀ 0) sized) (sym four) ∙ sets-append output₀ 0 size (bytes 2 4) in
-          ap₂ (λ (l : List ℕ) (k : ℕ). sets l k (pointBytes ps)) head (sym six) ∙ sets-append output₀ 0 (size ++ bytes 2 4) (pointBytes ps)
+          f ∙ ap₂ (λ (l : List ℕ) (k : ℕ). sets l k (bytes 2 4)) (e ∙ ap (sets output₀ 0) sized) (sym four) ∙ sym (sets-append output₀ 0 size (bytes 2 4)) in
+          ap₂ (λ (l : List ℕ) (k : ℕ). sets l k (pointBytes ps)) head (sym six) ∙ sym (sets-append output₀ 0 (size ++ bytes 2 4) (pointBytes ps))
           ∙ ap (sets output₀ 0) (append-assoc size (bytes 2 4) (pointBytes ps))
 
       record-length : length (lineRecord ps) ≡ 6 + 16 * count

@@ -1,11 +1,10 @@
 -- The kind 4 record in an output.
 use mathlib.Core.List.{List, map, _++_}
 use Prim.Native.Nat.{ℕ}
-use lib.ListN.{length, take, drop}
+use lib.ListN.{take}
 use Rattle.grid.specs.Grid.{writePlace}
 use Rattle.drawing_spec.specs.Drawing.{Point}
 use Rattle.drawing_spec.specs.Bytes.{bytes}
-use Rattle.planner_spec.specs.LineRecord.{lineRecord}
 use Rattle.graph_arrays.specs.Arrays.{pointIn}
 
 -- the bytes of the point at the places x and y

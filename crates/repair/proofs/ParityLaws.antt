@@ -1,8 +1,7 @@
 -- Laws of specs/Parity.
 use mathlib.Core.Path.{_≡_, refl, sym, ap, subst, _∙_}
 use mathlib.Core.List.{List, []}
-use mathlib.Core.Bool.{Bool}
-use Prim.Native.Nat.{ℕ, _≤_}
+use Prim.Native.Nat.{ℕ}
 use native.Mathlib.Omega.{arith}
 use lib.ListN.{length, replicate, length-replicate}
 use lib.Ieee.{Float}
@@ -12,12 +11,12 @@ use Rattle.drawing_spec.specs.Refusal.{Verdict, refused, accepted, verdict}
 use Rattle.graph_spec.specs.Graph.{Graph}
 use Rattle.graph_spec.specs.Odd.{oddNodes}
 use Rattle.graph_adjacency.specs.Lists.{Adjacency}
-use Rattle.graph_arrays.specs.Arrays.{pointIn, nodesIn, edgesIn, graphIn, EdgesHeld}
-use Rattle.graph_arrays.proofs.Tabulate.{tabulate-length}
+use Rattle.graph_arrays.specs.Arrays.{nodesIn, edgesIn, graphIn, EdgesHeld}
+use Rattle.graph_arrays.proofs.NodeList.{nodes-count}
 use Rattle.repair_spec.specs.Distance.{zeroLength}
 use Rattle.repair_spec.specs.Pairing.{Pair}
 use Rattle.repair_spec.specs.PairsIn.{pairsIn, PairRoom}
-use Rattle.repair_spec.specs.Repair.{Repairing, pairsOf, drawn, applyMatching, closeIf, fixParity}
+use Rattle.repair_spec.specs.Repair.{Repairing, pairsOf, applyMatching, closeIf, fixParity}
 use Rattle.repair_retrace.specs.Outcome.{Outcome, outcome, under}
 use Rattle.repair_retrace.specs.Answer.{outcomeIn, HeldAfter}
 use Rattle.repair_retrace.specs.declared.Applied.{Applied}
@@ -93,12 +92,9 @@ found-is g s floats bytes odd ps e = go (verdict (tableConditions s (length (odd
 
 module _ (most number n m : ℕ) (xs ys : List ℕ) (a : Adjacency) (E : EdgesHeld n m a) (s : Settings) (floats bytes odd count : ℕ) (fs ss : List ℕ)
     (F : found.pairs odd (pairsIn fs ss 0 count) ≡ pairsFor (graphIn n m xs ys a) s floats bytes) where
-  node-count : length (nodesIn n xs ys) ≡ n
-  node-count = tabulate-length (pointIn xs ys) n 0
-
   same-odd : oddOf (graphIn n m xs ys a) ≡ oddNodes n (edgesIn m a)
   unfolding oddOf
-  same-odd = ap (λ (k : ℕ). oddNodes k (edgesIn m a)) node-count
+  same-odd = ap (λ (k : ℕ). oddNodes k (edgesIn m a)) (nodes-count n xs ys)
 
   pub found-usable : Usable n count fs ss
   found-usable =
@@ -113,7 +109,7 @@ module _ (most number n m : ℕ) (xs ys : List ℕ) (a : Adjacency) (E : EdgesHe
   retraced-is =
       let ps = found-is (graphIn n m xs ys a) s floats bytes odd _ F .1 in
       ap (λ (qs : List Pair). closeIf (closing s) most number n (applyMatching most number n qs (under (edgesIn m a) zeroLength))) ps
-      ∙ ap (λ (k : ℕ). closeIf (closing s) most number k (applyMatching most number k (pairsOf (graphIn n m xs ys a) s (oddOf (graphIn n m xs ys a))) (under (edgesIn m a) zeroLength))) (sym node-count)
+      ∙ ap (λ (k : ℕ). closeIf (closing s) most number k (applyMatching most number k (pairsOf (graphIn n m xs ys a) s (oddOf (graphIn n m xs ys a))) (under (edgesIn m a) zeroLength))) (sym (nodes-count n xs ys))
       ∙ sym (fix-parity-is most number (graphIn n m xs ys a) s)
 
   -- what the retraces leave is the answer
@@ -123,7 +119,7 @@ module _ (most number n m : ℕ) (xs ys : List ℕ) (a : Adjacency) (E : EdgesHe
   parity-retraced o e =
       let counted = found-is (graphIn n m xs ys a) s floats bytes odd _ F .0 in
       ap (valueOf n odd) (e ∙ ap outcome retraced-is)
-      ∙ ap (λ (k : ℕ). valueOf k odd (outcome (fixParity most number (graphIn n m xs ys a) s))) (sym node-count)
+      ∙ ap (λ (k : ℕ). valueOf k odd (outcome (fixParity most number (graphIn n m xs ys a) s))) (sym (nodes-count n xs ys))
       ∙ ap (λ (k : ℕ). valueOf (length (nodesIn n xs ys)) k (outcome (fixParity most number (graphIn n m xs ys a) s))) counted
       ∙ parity-found most number (graphIn n m xs ys a) s floats bytes odd _ F
 

@@ -15,6 +15,7 @@ use Rattle.graph_adjacency.specs.Lists.{Adjacency}
 use Rattle.graph_arrays.specs.Arrays.{edgesIn, EdgesHeld, Front}
 use Rattle.repair_spec.specs.Distance.{zeroLength}
 use Rattle.repair_spec.specs.Pairing.{Pair, pair}
+use Rattle.repair_spec.specs.PairsIn.{pairsIn}
 use Rattle.repair_spec.specs.Repair.{Repair, Repairing, stopped, repaired, withSum, addSum, applyMatching, close, closeIf}
 use Rattle.repair_spec.proofs.Repaired.{odd-at}
 use Rattle.repair_copies.specs.Laying.{laidOf}
@@ -92,6 +93,12 @@ module _ (most number n : ℕ) where
 
     pub answers-open : b ≡ false → Answers n whole (Repaired sum m) a
     answers-open e = record { is = sym (ap outcome (ap (λ (b : Bool). closeIf b most number n (repaired (under es sum))) e ∙ open-is (under es sum))); held = H }
+
+    -- nor are there pairs
+    pub answers-nothing : b ≡ false → sum ≡ zeroLength → (fs ss : List ℕ) (pairs : ℕ) → pairs ≡ 0
+        → Answers n (closeIf b most number n (applyMatching most number n (pairsIn fs ss 0 pairs) (under es zeroLength))) (Repaired sum m) a
+    unfolding applyMatching pairsIn
+    answers-nothing e z fs ss pairs none = rw (none, sym z) (answers-open e)
 
     module _ (on : b ≡ true) (odd : List ℕ) (count : ℕ) (F : Front (oddNodes n es) odd count) where
       by-count : (t : Bool) → eqb (length (oddNodes n es)) 2 ≡ t → outcome (ByCount (under es sum) t) ≡ outcome whole

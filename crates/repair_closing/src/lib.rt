@@ -1,4 +1,6 @@
 // The retraces of the pairs, and then of the two nodes that they leave odd, where the line is to be closed.
+ghost use mathlib.Core.Path.{_≡_};
+ghost use mathlib.Core.Bool.{true, false};
 ghost use Prim.Native.Nat.{ℕ, _<_, _≤_};
 ghost use lib.ListN.{getD};
 ghost use Rattle.limits.specs.Limits.{mostEdges, mostPairs};
@@ -70,7 +72,7 @@ fn close(
 }
 
 // The retraces of the pairs, one after the other, and then `close`: all searches in the same arrays. What the arrays hold after a refusal is not said.
-pub fn retrace_pairs(
+fn retrace_all(
     ends: &mut [u16; ARC_ROOM],
     weights: &mut [f64; EDGE_ROOM],
     next: &mut [u16; ARC_ROOM],
@@ -123,6 +125,55 @@ pub fn retrace_pairs(
         &mut tree,
         &mut touched,
         sum,
+        closing,
+        most,
+        number,
+    )
+}
+
+// Whether there is nothing to retrace.
+fn nothing_left(pairs: usize, closing: bool) -> bool
+    ensures { λ r. ⌜ (r ≡ true → (pairs ≡ 0) × (closing ≡ false)) ⌝ }
+{
+    if closing {
+        return false;
+    }
+    pairs == 0
+}
+
+// The retraces of the pairs and the closing one, as `retrace_all` makes them. The arrays of the search are set only where there
+// is something to retrace.
+pub fn retrace_pairs(
+    ends: &mut [u16; ARC_ROOM],
+    weights: &mut [f64; EDGE_ROOM],
+    next: &mut [u16; ARC_ROOM],
+    heads: &mut [u16; 2 * MOST_NODES],
+    n: usize,
+    m: usize,
+    firsts: &[u16; MOST_PAIRS],
+    seconds: &[u16; MOST_PAIRS],
+    pairs: usize,
+    closing: bool,
+    most: usize,
+    number: u8,
+) -> Applied
+    requires { ⌜ (most ≤ mostEdges) × (pairs ≤ mostPairs) × ((j : ℕ) → j < pairs → (getD (now firsts) j 0 < n) × (getD (now seconds) j 0 < n)) ⌝ }
+    requires { ⌜ EdgesHeld n m (adjacency (now ends) (now weights) (now next) (now heads)) ⌝ }
+    ensures { λ r. ⌜ Answers n (closeIf closing most number n (applyMatching most number n (pairsIn (now (firsts .entry)) (now (seconds .entry)) 0 pairs) (under (edgesIn m (adjacency (now (ends .entry)) (now (weights .entry)) (now (next .entry)) (now (heads .entry)))) zeroLength))) r (adjacency (now (ends .exit)) (now (weights .exit)) (now (next .exit)) (now (heads .exit))) ⌝ }
+{
+    if nothing_left(pairs, closing) {
+        return Applied::Repaired(0.0, m);
+    }
+    retrace_all(
+        ends,
+        weights,
+        next,
+        heads,
+        n,
+        m,
+        firsts,
+        seconds,
+        pairs,
         closing,
         most,
         number,

@@ -16,7 +16,7 @@ use Rattle.graph_arrays.specs.Arrays.{edgesIn, EdgesLinked}
 use Rattle.graph_arrays.proofs.Arrays.{pushed-edges, pushed-linked}
 use Rattle.repair_spec.specs.Distance.{zeroLength}
 use Rattle.repair_spec.specs.Copies.{weightTo, Laid, lay, layPath}
-use Rattle.repair_spec.proofs.Copies.{copy, laid}
+use Rattle.repair_spec.proofs.Copies.{laid}
 use Rattle.repair_search.proofs.Along.{From, from-here, from-next, from-end}
 use Rattle.repair_copies.specs.Laying.{laidOf, copiesFrom}
 

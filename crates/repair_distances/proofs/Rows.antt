@@ -1,17 +1,19 @@
 -- Laws of specs/Rows.
 use mathlib.Core.Path.{_≡_, refl, sym, ap, _∙_}
-use mathlib.Core.List.{List, [], _∷_}
-use Prim.Native.Nat.{ℕ, zero, suc, _+_, _*_, _^_, _≤_, _<_}
-use native.Mathlib.Nat.{mul-le-mul-right, le-of-suc-le-suc}
+use mathlib.Core.List.{List}
+use Prim.Native.Nat.{ℕ, suc, _+_, _*_, _^_, _<_}
+use native.Mathlib.Nat.{mul-le-mul-right}
 use native.Mathlib.Decide.{ℕ-discrete}
 use native.Mathlib.Omega.{arith}
 use lib.ListN.{length, getD, set}
 use lib.Seq.{getD-set-same, getD-set-other}
 use lib.Ieee.{Float, nan}
 use Rattle.limits.specs.Limits.{mostNodes}
+use Rattle.lists.proofs.Elements.{getD-inside}
 use Rattle.graph_spec.specs.Graph.{Edge}
 use Rattle.graph_adjacency.specs.Lists.{Adjacency}
-use Rattle.graph_arrays.specs.Arrays.{edgesIn, EdgesHeld, AreNodes}
+use Rattle.graph_arrays.specs.Arrays.{edgesIn, EdgesHeld}
+use Rattle.graph_arrays.specs.NodeList.{NodeList}
 use Rattle.repair_spec.specs.Distance.{infinity, distanceAt, distances}
 use Rattle.repair_search.specs.Search.{Found}
 use Rattle.repair_search.proofs.Search.{all-same}
@@ -30,19 +32,13 @@ copied-turn at odd j start v ws₀ ws e h C = record {
   before = λ k l. getD-set-other ws (start + j) k (getD at v nan) nan (λ z. omega arith) ∙ C .before k l;
 }
 
--- of a list that long, whatever stands for what is missing
-getD-inside : (ds : List Float) (v : ℕ) (x y : Float) → v < length ds → getD ds v x ≡ getD ds v y
-getD-inside [] v x y h = absurd (omega arith)
-getD-inside (d ∷ ds) zero x y h = refl
-getD-inside (d ∷ ds) (suc v) x y h = getD-inside ds v x y (le-of-suc-le-suc h)
-
-pub row-is : (n m : ℕ) (a : Adjacency) (odd : List ℕ) (count i s start : ℕ) (at ws₀ ws : List Float) → EdgesHeld n m a → i < count → AreNodes n odd count
+pub row-is : (n m : ℕ) (a : Adjacency) (odd : List ℕ) (count i s start : ℕ) (at ws₀ ws : List Float) → EdgesHeld n m a → i < count → NodeList n mostNodes odd count
     → s ≡ getD odd i 0 → start ≡ 2 ^ count + i * count → Found (edgesIn m a) s mostNodes at → Copied at odd count start ws₀ ws → Row n (edgesIn m a) odd count i ws₀ ws
 row-is n m a odd count i s start at ws₀ ws E h nodes is st F C = record {
   right = λ j l.
       ap (λ (q : ℕ). getD ws (q + j) nan) (sym st) ∙ C .row j l
-      ∙ getD-inside at (getD odd j 0) nan infinity (omega (arith, nodes .below j l, F .long, E .edges .few-nodes))
-      ∙ all-same (edgesIn m a) s mostNodes at F n (E .edges .inside) (E .searchable .weights) (omega (arith, nodes .below i h)) (omega arith) (getD odd j 0)
+      ∙ getD-inside at (getD odd j 0) nan infinity (omega (arith, nodes .nodes-in j l, F .long, E .edges .few-nodes))
+      ∙ all-same (edgesIn m a) s mostNodes at F n (E .edges .inside) (E .searchable .weights) (omega (arith, nodes .nodes-in i h)) (omega arith) (getD odd j 0)
       ∙ ap (λ (u : ℕ). distanceAt (distances n (edgesIn m a) u) (getD odd j 0)) is;
   before = λ k l. C .before k (omega arith);
 }

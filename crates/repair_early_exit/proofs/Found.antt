@@ -17,9 +17,9 @@ use Rattle.sums.proofs.KeyLaws.{key-inj}
 use Rattle.sums.proofs.Sum.{add-nonneg, add-key, add-above, add-mono}
 use Rattle.graph_spec.specs.Graph.{Edge, Arc, edgesAt}
 use Rattle.graph_spec.specs.Ways.{Joins, Reach, here, on}
-use Rattle.drawing_spec.specs.Members.{In}
+use Rattle.lists.specs.Members.{In}
 use Rattle.graph_spec.proofs.Connected.{joins-sym, joins-inside}
-use Rattle.graph_spec.proofs.EdgesAt.{edgeAt, number-of, edgesAt-all, edgesAt-arc, arc-joins}
+use Rattle.graph_spec.proofs.EdgesAt.{edgeAt, number-of, edgesAt-all, edgesAt-arc, arc-joins, other-end}
 use Rattle.repair_spec.specs.Distance.{zeroLength, distanceAt, distances}
 use Rattle.repair_spec.specs.Retrace.{Step, to, none, found, error, onWayBack, member, stepBack, wayBack, shortestPath}
 use Rattle.repair_spec.specs.Cost.{Way, step, Least}
@@ -28,7 +28,7 @@ use Rattle.repair_spec.proofs.Least.{least-distance}
 use Rattle.repair_spec.specs.Relax.{keyAt}
 use Rattle.repair_early_exit.proofs.Difference.{round-most}
 use Rattle.graph_spec.specs.Weights.{gridStep, longest, Searchable}
-use Rattle.repair_early_exit.proofs.NotBack.{farthest, not-back, exactly-back}
+use Rattle.repair_early_exit.proofs.NotBack.{farthest, not-back, exactly-back, finite-far}
 use Rattle.repair_early_exit.proofs.Bounded.{distances-in-reach}
 use Rattle.repair_early_exit.proofs.Rounds.{distances-length}
 use Rattle.repair_early_exit.proofs.Closer.{closer, closer-less, closer-few}
@@ -58,13 +58,6 @@ step-finds ds c visited (r ∷ rs) a i m b =
     go true false e f (inl k) rec = absurd (true≢false (sym e ∙ ap (λ (q : Arc). member (q .to) visited) (sym k) ∙ m))
     go true false e f (inr k) rec = more _ (rec k)
 
--- an edge has one end other than u
-other-end : (e : Edge) (u v w : ℕ) → Joins e u v → Joins e u w → v ≡ w
-other-end e u v w (inl p) (inl q) = sym (p .1) ∙ q .1
-other-end e u v w (inl p) (inr q) = sym (p .1) ∙ q .1 ∙ sym (p .0) ∙ q .0
-other-end e u v w (inr p) (inl q) = sym (p .0) ∙ q .0 ∙ sym (p .1) ∙ q .1
-other-end e u v w (inr p) (inr q) = sym (p .0) ∙ q .0
-
 -- every edge of a node is among its arcs, with its weight
 pub arc-along : (es : List Edge) (e : Edge) (u v : ℕ) → In e es → Joins e v u → (r : Arc) × In r (edgesAt es v) × (r .to ≡ u) × (r .weight ≡ e .weight)
 arc-along es e u v i j =
@@ -77,9 +70,6 @@ arc-along es e u v i j =
       other-end (edgeAt es (k .number)) v (a .arc .to) u (rw (a .number-is) at (q .joins)) j',
       q .weight-is ∙ ap (λ (x : ℕ). edgeAt es x .weight) (a .number-is) ∙ ap (λ (x : Edge). x .weight) (k .is),
     )
-
-finite-far : key binary64 farthest ≤ overflow binary64
-finite-far = lit≤ tt
 
 -- a distance in reach and a weight have a finite sum
 sum-units : (a b m l : ℕ) → a < m → b ≤ l → l ≤ m → a + b ≤ 2 * m

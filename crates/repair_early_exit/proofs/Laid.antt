@@ -1,17 +1,14 @@
 -- What a retrace leaves can be searched like what it found, and how many edges there are after it is known before a copy is laid. Assumes nothing.
 use mathlib.Core.Path.{_≡_, refl, ap}
 use mathlib.Core.List.{List, [], _∷_}
-use mathlib.Core.Bool.{Bool, true, false, true≢false}
-use Prim.Native.Nat.{ℕ, zero, suc, _+_, _-_, _≤_}
+use mathlib.Core.Bool.{true, false}
+use Prim.Native.Nat.{ℕ, _+_, _-_}
 use native.Mathlib.Omega.{arith}
-use lib.Dec.{eqb, leb}
+use lib.Dec.{leb}
 use lib.ListN.{length}
-use lib.Ieee.{Float}
 use Rattle.limits.specs.Limits.{refusedPath}
-use Rattle.graph_spec.specs.Graph.{Edge, edgesAt}
 use Rattle.graph_spec.specs.Ways.{Walks}
-use Rattle.repair_spec.specs.Distance.{distanceAt, distances}
-use Rattle.repair_spec.specs.Retrace.{Path, Step, to, none, found, error, stepBack, wayBack, shortestPath}
+use Rattle.repair_spec.specs.Retrace.{Path, to, found, error, shortestPath}
 use Rattle.repair_spec.specs.Copies.{Laid, lay, layPath}
 use Rattle.repair_spec.proofs.Along.{shortest-along}
 use Rattle.repair_spec.proofs.Copies.{lay-copied, lay-inside, lay-weights, lay-count}
@@ -59,20 +56,3 @@ apply-counted most number n p ps r = go (shortestPath n (r .edges) (p .from) (p 
     go (found path) =
         ap (λ (m : ℕ). elim (leb m most) as (λ b. Repairing) [ false ↦ stopped number | true ↦ applyMatching most number n ps (retraced path r) ])
         (path-count path (record { edges = r .edges; sum = r .sum }))
-
--- a path has no more nodes than steps are allowed
-wayBack-length : (k : ℕ) (es : List Edge) (ds : List Float) (s v : ℕ) (after path : List ℕ) → wayBack k es ds s v after ≡ found path → length path ≤ k + length after
-unfolding wayBack
-wayBack-length zero es ds s v after path h = absurd (true≢false (cc))
-wayBack-length (suc k) es ds s v after path h = go (eqb v s) (stepBack ds (distanceAt ds v) (v ∷ after) (edgesAt es v)) (λ u. wayBack-length k es ds s u (v ∷ after) path) h
-  where
-    go : (b : Bool) (x : Step) → ((u : ℕ) → wayBack k es ds s u (v ∷ after) ≡ found path → length path ≤ k + suc (length after))
-        → elim b [ true ↦ found (v ∷ after) | false ↦ elim x [ to u ↦ wayBack k es ds s u (v ∷ after) | none ↦ error ] ] ≡ found path
-        → length path ≤ suc k + length after
-    go true x rec h = let e : v ∷ after ≡ path = cc in rw (← e) (omega arith)
-    go false (to u) rec h = omega (arith, rec u h)
-    go false none rec h = absurd (true≢false (cc))
-
-pub path-length : (n : ℕ) (es : List Edge) (s t : ℕ) (path : List ℕ) → shortestPath n es s t ≡ found path → length path ≤ n
-unfolding shortestPath
-path-length n es s t path h = omega (arith, wayBack-length n es (distances n es s) s t [] path h)

@@ -10,7 +10,7 @@ use lib.Dec.{eqb, leb}
 use borrow.Author.Tests.{leb-false, eqb-true}
 use Rattle.limits.specs.Limits.{refusedPath}
 use Rattle.drawing_spec.specs.Drawing.{Settings, closing}
-use Rattle.drawing_spec.proofs.Members.{either}
+use Rattle.lists.proofs.Members.{either}
 use Rattle.graph_spec.specs.Graph.{Edge, Graph}
 use Rattle.graph_spec.specs.Odd.{oddNodes}
 use Rattle.graph_spec.specs.Ways.{Reach}

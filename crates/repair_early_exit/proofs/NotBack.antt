@@ -107,7 +107,7 @@ from-infinity (inf true) p = absurd (p .sign)
 from-infinity (inf false) p = refl
 from-infinity (fin s m e) p = not-less infinity (inf-nonneg binary64) (key-top binary64 tolerance tolerance-nonneg)
 
-finite-far : key binary64 farthest ≤ overflow binary64
+pub finite-far : key binary64 farthest ≤ overflow binary64
 finite-far = lit≤ tt
 
 -- from a node at infinity no node is on the way back

@@ -7,16 +7,17 @@ use Prim.Native.Nat.{ℕ, zero, suc, _+_, _≤_, _<_}
 use native.Mathlib.Nat.{le-refl, le-trans}
 use native.Mathlib.Decide.{decLe}
 use native.Mathlib.Omega.{arith}
-use lib.ListN.{length, set, replicate, length-set, length-replicate, List·getD-eq-default}
+use lib.ListN.{length, set, replicate, length-set, length-replicate}
 use lib.Ieee.{Float, binary64}
 use Rattle.sums.specs.Key.{Nonneg, key}
 use Rattle.sums.proofs.KeyLaws.{key-top}
 use Rattle.sums.proofs.Sum.{add-above, zero-nonneg, inf-nonneg}
-use Rattle.drawing_spec.proofs.Members.{set-cases, getD-same}
+use Rattle.lists.proofs.Elements.{set-cases, getD-same}
 use Rattle.graph_spec.specs.Graph.{Edge}
 use Rattle.repair_spec.specs.Distance.{infinity, zeroLength, distanceAt, Nearest, pick, relaxAll, dijkstra, distances}
 use Rattle.repair_spec.specs.Relax.{keyAt, AllNonneg}
 use Rattle.repair_spec.proofs.Relax.{Improved, still-nonneg, Next, next-nonneg, relaxAll-is}
+use Rattle.repair_spec.proofs.Rounds.{beyond}
 use Rattle.repair_spec.proofs.Nearest.{Done, Open, Picked, pick-is}
 use Rattle.graph_spec.specs.Weights.{Weights}
 
@@ -36,9 +37,6 @@ nextDistances es ds done = relaxAll (taken ds done .node) (taken ds done .distan
 
 abbrev pub nextDone : List Float → List Bool → List Bool
 nextDone ds done = set done (taken ds done .node) true
-
-beyond : (ds : List Float) (v : ℕ) → length ds ≤ v → distanceAt ds v ≡ infinity
-beyond ds v h = List·getD-eq-default ds infinity h
 
 -- ---- what is taken: the nearest node that is not done, or none where all of these are infinitely far
 module _ (ds : List Float) (done : List Bool) (O : Ordered ds done) where

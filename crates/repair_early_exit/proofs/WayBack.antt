@@ -10,7 +10,7 @@ use lib.Dec.{eqb}
 use lib.Ieee.{Float, binary64}
 use Rattle.sums.specs.Key.{Nonneg, key}
 use Rattle.graph_spec.specs.Graph.{Edge, Arc, edgesAt}
-use Rattle.drawing_spec.specs.Members.{In}
+use Rattle.lists.specs.Members.{In}
 use Rattle.graph_spec.proofs.EdgesAt.{arc-joins}
 use Rattle.repair_spec.specs.Distance.{distanceAt}
 use Rattle.repair_spec.specs.Retrace.{Path, Step, to, none, found, error, onWayBack, member, stepBack, wayBack}
@@ -22,14 +22,6 @@ use Rattle.repair_early_exit.proofs.NotBack.{InReach, none-back, not-ba
 pub record Serves (t : ℕ) (ds ds' : List Float) : Type 0 where
   pub goal : distanceAt ds' t ≡ distanceAt ds t
   pub each : (v : ℕ) → (distanceAt ds' v ≡ distanceAt ds v) ⊎ ((keyAt ds t ≤ keyAt ds v) × (keyAt ds t ≤ keyAt ds' v))
-
--- by the distances ds: what is below that of t is the same, and nothing else has come below it
-pub serves-by : {t : ℕ} {ds ds' : List Float} → distanceAt ds' t ≡ distanceAt ds t → ((v : ℕ) → keyAt ds v < keyAt ds t → distanceAt ds' v ≡ distanceAt ds v)
-    → ((v : ℕ) → keyAt ds t ≤ keyAt ds v → keyAt ds t ≤ keyAt ds' v) → Serves t ds ds'
-serves-by {t} {ds} goal same rest = record {
-  goal = goal;
-  each = λ v. elim (decLe (keyAt ds t) (keyAt ds v)) [ yes l ↦ inr (l, rest v l) | no l ↦ inl (same v (lt-of-not-le l)) ];
-}
 
 -- so a distance below that of t, in either list, is the same in both
 pub serves-final : {t : ℕ} {ds ds' : List Float} → Serves t ds ds' → (v : ℕ) → (keyAt ds v < keyAt ds t) ⊎ (keyAt ds' v < keyAt ds' t) → distanceAt ds' v ≡ distanceAt ds v

@@ -10,7 +10,7 @@ use lib.Seq.{getD-set-other}
 use lib.Dec.{eqb}
 use borrow.Author.Tests.{eqb-true, eqb-false}
 use Rattle.drawing_spec.specs.Drawing.{Point}
-use Rattle.drawing_spec.proofs.Members.{set-cases, getD-same}
+use Rattle.lists.proofs.Elements.{set-cases, getD-same}
 use Rattle.graph_spec.specs.Chain.{squared}
 use Rattle.repair_spec.specs.Pairing.{nothing, between, closestTo}
 use Rattle.graph_arrays.specs.Arrays.{pointIn, NodesHeld}

@@ -1,6 +1,6 @@
 -- The nearest two by whole numbers are the nearest two by lengths, as the source's `greedy_euclidean_matching` compares them: `closest` compares squared
 -- distances in grid steps, the source the f64 that `hypot` gives, from infinity on.
-use mathlib.Core.Path.{_≡_, refl, sym, ap, _∙_}
+use mathlib.Core.Path.{_≡_, refl, ap, _∙_}
 use mathlib.Core.Bool.{Bool, true, false}
 use mathlib.Core.List.{List, [], _∷_}
 use Prim.Native.Nat.{ℕ, suc, _^_, _<_}
@@ -14,11 +14,12 @@ use Rattle.sums.proofs.KeyLaws.{lt-key, key-finite}
 use Rattle.sums.proofs.Sum.{inf-nonneg}
 use Rattle.grid.specs.Grid.{gridExponent}
 use Rattle.length.specs.Root.{lengthOf}
-use Rattle.length.proofs.LengthLaws.{squared-lt, length-order, length-nonneg, length-finite}
+use Rattle.length.proofs.LengthLaws.{length-order, length-nonneg, length-finite}
 use Rattle.drawing_spec.specs.Drawing.{Point}
-use Rattle.drawing_spec.specs.Members.{All}
+use Rattle.lists.specs.Members.{All}
 use Rattle.drawing_spec.specs.OnGrid.{OnGrid}
 use Rattle.graph_spec.specs.Chain.{squared}
+use Rattle.graph_spec.proofs.Sort.{small-squared}
 use Rattle.repair_spec.specs.Distance.{infinity}
 use Rattle.repair_spec.specs.Pairing.{Closest, nothing, between, closer, closestTo, closest}
 
@@ -52,9 +53,6 @@ byLength (between i j d) = best i j (lengthOf d)
 abbrev Small : Closest → Type 0
 Small nothing = Unit {0}
 Small (between i j d) = d < 2 ^ 50
-
-small-squared : (p q : Point) → OnGrid p → OnGrid q → squared p q < 2 ^ 50
-small-squared p q P Q = squared-lt (p .x) (p .y) (q .x) (q .y) (omega (arith, P .0)) (omega (arith, P .1)) (omega (arith, Q .0)) (omega (arith, Q .1))
 
 below-infinity : (x : Float) → Nonneg binary64 x → T (finite x) → lt x infinity ≡ true
 below-infinity nan p h = absurd h

@@ -2,7 +2,7 @@
 use mathlib.Core.Path.{_≡_, refl, ap, _∙_}
 use mathlib.Core.Logic.{inl, inr}
 use mathlib.Core.List.{List, [], _∷_, map}
-use Prim.Native.Nat.{ℕ, zero, suc, _-_, _^_, _≤_, _<_, _*_}
+use Prim.Native.Nat.{ℕ, suc, _-_, _^_, _≤_, _<_, _*_}
 use native.Mathlib.Omega.{arith}
 use lib.ListN.{length, getD, take, set, length-set}
 use lib.Seq.{getD-take, length-take-le}
@@ -10,12 +10,12 @@ use Rattle.grid.specs.Grid.{origin}
 use Rattle.limits.specs.Limits.{mostNodes}
 use Rattle.length.specs.Root.{squaredOf}
 use Rattle.length.proofs.LengthLaws.{square-le}
-use Rattle.drawing_spec.specs.Drawing.{Point}
-use Rattle.drawing_spec.proofs.Members.{set-cases}
+use Rattle.lists.proofs.Elements.{set-cases}
 use Rattle.graph_spec.specs.Chain.{squared}
-use Rattle.graph_arrays.specs.Arrays.{pointIn, nodesIn, NodesHeld, AreNodes}
-use Rattle.graph_arrays.proofs.Tabulate.{tabulate-at}
-use Rattle.repair_spec.specs.Pairing.{noPoint}
+use Rattle.graph_arrays.specs.Arrays.{pointIn, nodesIn, NodesHeld}
+use Rattle.graph_arrays.specs.NodeList.{NodeList}
+use Rattle.graph_spec.specs.Graph.{noPoint}
+use Rattle.lists.proofs.Tabulate.{tabulate-at}
 use Rattle.repair_greedy.specs.Rows.{at}
 
 -- a distance by the coordinates
@@ -34,15 +34,15 @@ distance-small n xs ys u v H =
 pub held-most : (n : ℕ) (xs ys : List ℕ) → NodesHeld n xs ys → NodesHeld mostNodes xs ys
 held-most n xs ys H = record { few = omega arith; xs-on = H .xs-on; ys-on = H .ys-on }
 
-module _ (n : ℕ) (w : List ℕ) (left : ℕ) (W : AreNodes n w left) where
+module _ (n : ℕ) (w : List ℕ) (left : ℕ) (W : NodeList n mostNodes w left) where
   -- the last takes the place of the one at i
-  pub nodes-removed : (i : ℕ) → i < left → AreNodes n (set w i (getD w (left - 1) 0)) (left - 1)
+  pub nodes-removed : (i : ℕ) → i < left → NodeList n mostNodes (set w i (getD w (left - 1) 0)) (left - 1)
   nodes-removed i h = record {
-    few = omega (arith, W .few);
+    fits = omega (arith, W .fits);
     long = omega (arith, length-set w i (getD w (left - 1) 0), W .long);
-    below = λ j l. elim (set-cases w i (getD w (left - 1) 0) 0 j) [
-      | inl p ↦ omega (arith, p .1, W .below (left - 1) (omega arith))
-      | inr e ↦ omega (arith, e, W .below j (omega arith))
+    nodes-in = λ j l. elim (set-cases w i (getD w (left - 1) 0) 0 j) [
+      | inl p ↦ omega (arith, p .1, W .nodes-in (left - 1) (omega arith))
+      | inr e ↦ omega (arith, e, W .nodes-in j (omega arith))
     ];
   }
 
@@ -52,7 +52,7 @@ map-points n xs ys [] b = refl
 map-points n xs ys (v ∷ vs) b =
     rw (tabulate-at (pointIn xs ys) n v noPoint (b 0 (omega arith)), map-points n xs ys vs (λ i l. b (suc i) (omega arith)))
 
-pub points-of : (n : ℕ) (xs ys w : List ℕ) (left : ℕ) → AreNodes n w left → map (pointIn xs ys) (take left w) ≡ map (λ (v : ℕ). getD (nodesIn n xs ys) v noPoint) (take left w)
+pub points-of : (n : ℕ) (xs ys w : List ℕ) (left : ℕ) → NodeList n mostNodes w left → map (pointIn xs ys) (take left w) ≡ map (λ (v : ℕ). getD (nodesIn n xs ys) v noPoint) (take left w)
 points-of n xs ys w left W =
     let long = length-take-le left w (W .long) in
-    map-points n xs ys (take left w) (λ i l. let here : i < left = omega arith in omega (arith, getD-take left w i 0 here, W .below i here))
+    map-points n xs ys (take left w) (λ i l. let here : i < left = omega arith in omega (arith, getD-take left w i 0 here, W .nodes-in i here))

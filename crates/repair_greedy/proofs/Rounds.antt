@@ -9,12 +9,14 @@ use lib.Seq.{length-take-le, take-take, take-set-lt, getD-take}
 use lib.Dec.{ltb}
 use borrow.Author.Tests.{lt-ltb, le-ltb}
 use Rattle.drawing_spec.specs.Drawing.{Point}
-use Rattle.limits.specs.Limits.{mostPairs}
-use Rattle.repair_spec.specs.Pairing.{Pair, pair, Closest, nothing, between, closest, swapRemove, greedyPairs, noPoint}
+use Rattle.limits.specs.Limits.{mostPairs, mostNodes}
+use Rattle.repair_spec.specs.Pairing.{Pair, pair, Closest, nothing, between, closest, swapRemove, greedyPairs}
 use Rattle.repair_spec.proofs.Pairs.{Places, closest-places}
 use Rattle.repair_spec.specs.PairsIn.{pairsIn, PairRoom}
 use Rattle.repair_spec.proofs.PairsIn.{pairs-more, room-more}
-use Rattle.graph_arrays.specs.Arrays.{pointIn, nodesIn, AreNodes}
+use Rattle.graph_arrays.specs.Arrays.{pointIn, nodesIn}
+use Rattle.graph_arrays.specs.NodeList.{NodeList}
+use Rattle.graph_spec.specs.Graph.{noPoint}
 use Rattle.repair_greedy.proofs.Points.{nodes-removed, points-of}
 use Rattle.repair_greedy.specs.Bounds.{Bounds}
 use Rattle.repair_greedy.proofs.Bounds.{bounds-removed}
@@ -111,12 +113,12 @@ round-done f w w₁ w₂ lows lows₁ lows₂ n i j d count fs ss h long B is e�
 
 pub record Writing (ns : List Point) (n all left count : ℕ) (w₀ w fs ss : List ℕ) : Type 0 where
   pub sum : left + 2 * count ≡ all
-  pub nodes : AreNodes n w left
+  pub nodes : NodeList n mostNodes w left
   pub room : PairRoom fs ss
   pub pairs : pairsIn fs ss 0 count ++ greedyPairs (all - count) ns (take left w) ≡ greedyPairs all ns (take all w₀)
 
 module _ (n : ℕ) (xs ys : List ℕ) (all : ℕ) (w₀ : List ℕ) where
-  pub writing-start : (fs ss : List ℕ) → AreNodes n w₀ all → PairRoom fs ss → Writing (nodesIn n xs ys) n all all 0 w₀ w₀ fs ss
+  pub writing-start : (fs ss : List ℕ) → NodeList n mostNodes w₀ all → PairRoom fs ss → Writing (nodesIn n xs ys) n all all 0 w₀ w₀ fs ss
   unfolding pairsIn
   writing-start fs ss W R =
       let e : all - 0 ≡ all = omega arith in
@@ -141,8 +143,8 @@ module _ (n : ℕ) (xs ys : List ℕ) (all : ℕ) (w₀ : List ℕ) where
         let less : left - 1 - 1 ≡ left - 2 = omega arith in
         record {
           sum = omega (arith, S .sum);
-          nodes = subst (λ (l : List ℕ). AreNodes n l (left - 2)) (sym (R .rest))
-              (subst (AreNodes n (without w left (R .from) (R .to))) less
+          nodes = subst (λ (l : List ℕ). NodeList n mostNodes l (left - 2)) (sym (R .rest))
+              (subst (NodeList n mostNodes (without w left (R .from) (R .to))) less
               (nodes-removed n (moved w left (R .to)) (left - 1) (nodes-removed n w left W (R .to) (at .1)) (R .from) (omega (arith, at .0, at .1))));
           room = rw (R .first, R .second) (room-more fs ss (S .room) count (getD w (R .from) 0) (getD w (R .to) 0) room);
           pairs =

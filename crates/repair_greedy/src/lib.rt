@@ -8,7 +8,8 @@ ghost use lib.ListN.{getD, take, drop, set};
 ghost use Rattle.grid.specs.Grid.{origin};
 ghost use Rattle.limits.specs.Limits.{mostNodes, mostPairs};
 ghost use Rattle.graph_spec.specs.Chain.{squared};
-ghost use Rattle.graph_arrays.specs.Arrays.{pointIn, nodesIn, NodesHeld, AreNodes};
+ghost use Rattle.graph_arrays.specs.Arrays.{pointIn, nodesIn, NodesHeld};
+ghost use Rattle.graph_arrays.specs.NodeList.{NodeList};
 ghost use Rattle.repair_spec.specs.Pairing.{nothing, between, closer, closestTo, closest, greedyPairs};
 ghost use Rattle.repair_spec.specs.PairsIn.{pairsIn, PairRoom};
 ghost use Rattle.repair_greedy.specs.Rows.{at, AtMost};
@@ -53,7 +54,7 @@ fn scan_row(
     left: usize,
     i: usize,
 ) -> Nearest
-    requires { ⌜ (i + 1 < left) × NodesHeld mostNodes (now xs) (now ys) × AreNodes mostNodes (now working) left ⌝ }
+    requires { ⌜ (i + 1 < left) × NodesHeld mostNodes (now xs) (now ys) × NodeList mostNodes mostNodes (now working) left ⌝ }
     ensures { λ r. ⌜ closestTo (pointIn (now (xs .entry)) (now (ys .entry)) (getD (now (working .entry)) i 0)) i (drop (i + 1) (map (pointIn (now (xs .entry)) (now (ys .entry))) (take left (now (working .entry))))) (i + 1) nothing ≡ between (r .from) (r .to) (r .squared) ⌝ }
 {
     let u = widen::wide(working[i]);
@@ -86,7 +87,7 @@ fn with_row(
     i: usize,
     best: Nearest,
 ) -> Nearest
-    requires { ⌜ (i + 1 < left) × NodesHeld mostNodes (now xs) (now ys) × AreNodes mostNodes (now working) left × Bounds (pointIn (now xs) (now ys)) (now working) left (now lows) ⌝ }
+    requires { ⌜ (i + 1 < left) × NodesHeld mostNodes (now xs) (now ys) × NodeList mostNodes mostNodes (now working) left × Bounds (pointIn (now xs) (now ys)) (now working) left (now lows) ⌝ }
     ensures { λ r. ⌜ (closestTo (pointIn (now (xs .entry)) (now (ys .entry)) (getD (now (working .entry)) i 0)) i (drop (i + 1) (map (pointIn (now (xs .entry)) (now (ys .entry))) (take left (now (working .entry))))) (i + 1) (between (best .from) (best .to) (best .squared)) ≡ between (r .from) (r .to) (r .squared)) × Bounds (pointIn (now (xs .entry)) (now (ys .entry))) (now (working .entry)) left (now (lows .exit)) ⌝ }
 {
     let low = lows[i];
@@ -98,55 +99,64 @@ fn with_row(
     nearer(best, row.from, row.to, row.squared)
 }
 
-// The row whose bound is the least, of `left` places. Which row it is decides the time, and no answer.
+// A row, and its bound.
+struct Low {
+    at: usize,
+    low: u64,
+}
+
+// The lower of two rows, of `left` places: the second only where its bound is lower.
+fn lower(best: Low, at: usize, low: u64, left: usize) -> Low
+    requires { ⌜ (best .at + 1 < left) × (at + 1 < left) ⌝ }
+    ensures { λ r. ⌜ r .at + 1 < left ⌝ }
+{
+    if low < best.low {
+        return Low { at, low };
+    }
+    best
+}
+
+// A row whose bound is the least, of `left` places. Which row it is decides the time, and no answer. Two rows are looked at in
+// a turn, each with a row in hand of its own: a processor then compares them at once.
 fn least_row(lows: &[u64; MOST_NODES], left: usize) -> usize
     requires { ⌜ (2 ≤ left) × (left ≤ mostNodes) ⌝ }
     ensures { λ r. ⌜ r + 1 < left ⌝ }
 {
-    let last = left - 1;
-    let mut least = lows[0];
-    let mut at = 0;
-    let mut i = 1;
-    while i < last {
-        let low = lows[i];
-        if low < least {
-            least = low;
-            at = i;
-        }
-        i += 1;
+    let rows = left - 1;
+    let first = lows[0];
+    let mut one = Low { at: 0, low: first };
+    let mut other = Low { at: 0, low: first };
+    let mut i = rows % 2;
+    let mut turns = rows / 2;
+    while turns > 0 {
+        one = lower(one, i, lows[i], left);
+        other = lower(other, i + 1, lows[i + 1], left);
+        i += 2;
+        turns -= 1;
     }
-    at
+    let least = lower(one, other.at, other.low, left);
+    least.at
 }
 
-// The distance of two places, and whether a row had it as its bound.
-struct Reached {
-    squared: u64,
-    known: bool,
-}
-
-// Looks at the row whose bound is the least.
-fn look_at_least(
+// Looks at row i, of `left` places: its bound is then its least distance, which is the answer.
+fn look_at(
     xs: &[u32; MOST_NODES],
     ys: &[u32; MOST_NODES],
     working: &[u16; MOST_NODES],
     lows: &mut [u64; MOST_NODES],
     left: usize,
-) -> Reached
-    requires { ⌜ (2 ≤ left) × NodesHeld mostNodes (now xs) (now ys) × AreNodes mostNodes (now working) left × Bounds (pointIn (now xs) (now ys)) (now working) left (now lows) ⌝ }
-    ensures { λ r. ⌜ AtMost (closest (map (pointIn (now (xs .entry)) (now (ys .entry))) (take left (now (working .entry)))) 0 nothing) (r .squared) × (r .squared ≤ 2 ^ 49) × Bounds (pointIn (now (xs .entry)) (now (ys .entry))) (now (working .entry)) left (now (lows .exit)) ⌝ }
+    i: usize,
+) -> u64
+    requires { ⌜ (i + 1 < left) × NodesHeld mostNodes (now xs) (now ys) × NodeList mostNodes mostNodes (now working) left × Bounds (pointIn (now xs) (now ys)) (now working) left (now lows) ⌝ }
+    ensures { λ r. ⌜ AtMost (closest (map (pointIn (now (xs .entry)) (now (ys .entry))) (take left (now (working .entry)))) 0 nothing) r × (r ≤ 2 ^ 49) × Bounds (pointIn (now (xs .entry)) (now (ys .entry))) (now (working .entry)) left (now (lows .exit)) ⌝ }
 {
-    let i = least_row(lows, left);
-    let before = lows[i];
     let row = scan_row(xs, ys, working, left, i);
     lows[i] = row.squared;
-    Reached {
-        squared: row.squared,
-        known: before == row.squared,
-    }
+    row.squared
 }
 
-// A distance that two places have: that of a row whose bound was the least of all and right, so that it is
-// the least distance. Until there is one, the row of the least bound is looked at, which makes it right.
+// A distance that two places have: that of a row whose bound is right and the least of all, so that it is the least distance.
+// Until there is one, the row of the least bound is looked at, which makes it right.
 // The proof uses only that two places have the distance: how near it is decides the time, and no answer.
 fn least_distance(
     xs: &[u32; MOST_NODES],
@@ -155,19 +165,22 @@ fn least_distance(
     lows: &mut [u64; MOST_NODES],
     left: usize,
 ) -> u64
-    requires { ⌜ (2 ≤ left) × NodesHeld mostNodes (now xs) (now ys) × AreNodes mostNodes (now working) left × Bounds (pointIn (now xs) (now ys)) (now working) left (now lows) ⌝ }
+    requires { ⌜ (2 ≤ left) × NodesHeld mostNodes (now xs) (now ys) × NodeList mostNodes mostNodes (now working) left × Bounds (pointIn (now xs) (now ys)) (now working) left (now lows) ⌝ }
     ensures { λ r. ⌜ AtMost (closest (map (pointIn (now (xs .entry)) (now (ys .entry))) (take left (now (working .entry)))) 0 nothing) r × (r ≤ 2 ^ 49) × Bounds (pointIn (now (xs .entry)) (now (ys .entry))) (now (working .entry)) left (now (lows .exit)) ⌝ }
 {
-    let mut reached = look_at_least(xs, ys, working, lows, left);
+    let mut i = least_row(lows, left);
+    let mut squared = look_at(xs, ys, working, lows, left, i);
     let mut turns = left;
     while turns > 0 {
-        if reached.known {
-            return reached.squared;
+        let least = least_row(lows, left);
+        if least == i {
+            return squared;
         }
-        reached = look_at_least(xs, ys, working, lows, left);
+        i = least;
+        squared = look_at(xs, ys, working, lows, left, i);
         turns -= 1;
     }
-    reached.squared
+    squared
 }
 
 // The nearest two of `left` places. What is in hand at the start is farther than the least distance, by one.
@@ -178,7 +191,7 @@ fn find_closest(
     lows: &mut [u64; MOST_NODES],
     left: usize,
 ) -> Nearest
-    requires { ⌜ (2 ≤ left) × NodesHeld mostNodes (now xs) (now ys) × AreNodes mostNodes (now working) left × Bounds (pointIn (now xs) (now ys)) (now working) left (now lows) ⌝ }
+    requires { ⌜ (2 ≤ left) × NodesHeld mostNodes (now xs) (now ys) × NodeList mostNodes mostNodes (now working) left × Bounds (pointIn (now xs) (now ys)) (now working) left (now lows) ⌝ }
     ensures { λ r. ⌜ (closest (map (pointIn (now (xs .entry)) (now (ys .entry))) (take left (now (working .entry)))) 0 nothing ≡ between (r .from) (r .to) (r .squared)) × (r .from < r .to) × (r .to < left) × Bounds (pointIn (now (xs .entry)) (now (ys .entry))) (now (working .entry)) left (now (lows .exit)) ⌝ }
 {
     let least = least_distance(xs, ys, working, lows, left);
@@ -222,7 +235,7 @@ fn pair_nearest(
     left: usize,
     count: usize,
 )
-    requires { ⌜ (2 < left) × (count < mostPairs) × NodesHeld mostNodes (now xs) (now ys) × AreNodes mostNodes (now working) left × Bounds (pointIn (now xs) (now ys)) (now working) left (now lows) ⌝ }
+    requires { ⌜ (2 < left) × (count < mostPairs) × NodesHeld mostNodes (now xs) (now ys) × NodeList mostNodes mostNodes (now working) left × Bounds (pointIn (now xs) (now ys)) (now working) left (now lows) ⌝ }
     ensures { λ _. ⌜ Bounds (pointIn (now (xs .entry)) (now (ys .entry))) (now (working .exit)) (left - 2) (now (lows .exit)) × Round (pointIn (now (xs .entry)) (now (ys .entry))) left count (now (working .entry)) (now (working .exit)) (now (firsts .entry)) (now (firsts .exit)) (now (seconds .entry)) (now (seconds .exit)) ⌝ }
 {
     let near = find_closest(xs, ys, working, lows, left);
@@ -245,7 +258,7 @@ pub fn greedy_pairs(
     firsts: &mut [u16; MOST_PAIRS],
     seconds: &mut [u16; MOST_PAIRS],
 ) -> usize
-    requires { ⌜ NodesHeld n (now xs) (now ys) × AreNodes n (now odd) count × PairRoom (now firsts) (now seconds) ⌝ }
+    requires { ⌜ NodesHeld n (now xs) (now ys) × NodeList n mostNodes (now odd) count × PairRoom (now firsts) (now seconds) ⌝ }
     ensures { λ r. ⌜ pairsIn (now (firsts .exit)) (now (seconds .exit)) 0 r ≡ greedyPairs count (nodesIn n (now (xs .entry)) (now (ys .entry))) (take count (now (odd .entry))) ⌝ }
 {
     let mut lows = [0u64; MOST_NODES];

@@ -8,7 +8,7 @@ use lib.Pow.{pow-mono}
 use lib.Ieee.{Float}
 use Rattle.repair_spec.specs.Pairing.{Pair, pair, matchAll}
 use Rattle.repair_masks.specs.Masks.{Bit}
-use Rattle.repair_masks.proofs.Masks.{places-none, lowest-bit, ones-without, ones-zero}
+use Rattle.repair_masks.proofs.Masks.{places-none, lowest-bit, ones-without, some-places}
 use Rattle.repair_masks.specs.Table.{low, pairing, Partner, Needed}
 use Rattle.repair_masks.proofs.Table.{needed-rest}
 use Rattle.repair_masks.specs.Follow.{follow}
@@ -29,15 +29,11 @@ module _ (n : ℕ) (d : ℕ → ℕ → Float) (fits : n ≤ 64) (partner : ℕ 
   none-left zero h e = refl
   none-left (suc m) h e = absurd (omega (arith, ones-without (low (suc m)) (suc m) (low-bit (suc m) (omega arith) h)))
 
-  some-left : (m : ℕ) → 0 < ones m → 0 < m
-  some-left zero h = absurd (omega (arith, ones-zero))
-  some-left (suc m) h = omega arith
-
   pub follow-pairs : (k m : ℕ) → m < 2 ^ n → ones m ≡ 2 * k → Needed n m → follow k partner m ≡ pairing n d m .pairs
   unfolding follow
   follow-pairs zero m h e g = sym (ap (λ (x : ℕ). pairing n d x .pairs) (none-left m h (omega arith)) ∙ no-pairs n d)
   follow-pairs (suc k) m h e g =
-      let p : 0 < m = some-left m (omega arith) in
+      let p : 0 < m = some-places m (omega arith) in
       let entry = known m p h (omega arith) g in
       let a = ones-without (low m) m (low-bit m p h) in
       let b = ones-without (partner m) (m - 2 ^ low m) (entry .set) in

@@ -11,7 +11,7 @@ use lib.Dec.{eqb}
 use lib.Count.{trailingZeros, under, ones, ones-step}
 use lib.Pow.{pow-pos, pow-mono}
 use borrow.Author.Tests.{eqb-true, eqb-false, eq-eqb, ne-eqb}
-use Rattle.drawing_spec.specs.Members.{All}
+use Rattle.lists.specs.Members.{All}
 use Rattle.repair_spec.specs.Pairing.{without}
 use Rattle.repair_masks.specs.Places.{upTo}
 use Rattle.repair_masks.proofs.Places.{without-yes, without-no}
@@ -212,19 +212,6 @@ bits-set (suc k) i n m₀ m h b = go (parity m) (bits-set k (suc i) n m₀ (m / 
 pub places-set : (n m : ℕ) → All (λ (j : ℕ). (j < n) × Bit j m) (placesOf n m)
 places-set n m = bits-set n 0 n m m (omega arith) (λ j b. let e : j ≡ 0 + j = omega arith in rw e at b)
 
--- how many
-bits-count : (k i m : ℕ) → m < 2 ^ k → length (bits k i m) ≡ ones m
-unfolding ones
-bits-count zero i m h = let e : m ≡ 0 = omega arith in ap length (bits-none i m) ∙ ap ones (sym e)
-bits-count (suc k) i m h = go (parity m) (bits-count k (suc i) (m / 2) (omega (arith, double k)))
-  where
-    go : Parity m → length (bits k (suc i) (m / 2)) ≡ ones (m / 2) → length (bits (suc k) i m) ≡ ones m
-    go (odd e) r = omega (arith, ap length (bits-odd k i m e), ones-step m)
-    go (even e) r = omega (arith, ap length (bits-even k i m e), ones-step m)
-
-pub places-count : (n m : ℕ) → m < 2 ^ n → length (placesOf n m) ≡ ones m
-places-count n m h = bits-count n 0 m h
-
 length-bits : (k i m : ℕ) → length (bits k i m) ≤ k
 length-bits zero i m = rw (bits-none i m) (omega arith)
 length-bits (suc k) i m = go (parity m) (length-bits k (suc i) (m / 2))
@@ -288,10 +275,15 @@ ones-lowest (suc w) m k (suc e) l some h = go (parity m) (parity k) l (λ a b c.
               omega (arith, i, a, ones-step m, ones-step (m + k), ap ones half)
         ]
 
--- a mask with an odd number of places has one
+-- the mask 0 has no places
 pub ones-zero : ones 0 ≡ 0
 unfolding ones
 ones-zero = refl
+
+-- so a mask that has some is not 0
+pub some-places : (m : ℕ) → 0 < ones m → 0 < m
+some-places zero h = absurd (omega (arith, ones-zero))
+some-places (suc m) h = omega arith
 
 pub full-bit : (n v : ℕ) → v < n → Bit v (2 ^ n - 1)
 full-bit zero v h = absurd (omega arith)

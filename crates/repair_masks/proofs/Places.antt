@@ -9,8 +9,8 @@ use lib.Seq.{drop-cons}
 use lib.Dec.{eqb}
 use lib.Ieee.{Float, binary64, add, lt}
 use borrow.Author.Tests.{eqb-true, eqb-false, eq-eqb, ne-eqb}
-use Rattle.drawing_spec.specs.Members.{All}
-use Rattle.repair_spec.specs.Pairing.{Pair, pair, Matching, matching, Choice, none, chosen, cheaper, choiceOf, without, partner, matchAll, leaveWith, leaveTwo, optimalPairs}
+use Rattle.lists.specs.Members.{All}
+use Rattle.repair_spec.specs.Pairing.{pair, Matching, matching, Choice, none, chosen, cheaper, choiceOf, without, partner, matchAll, leaveWith, leaveTwo, optimalPairs}
 use Rattle.repair_masks.specs.Places.{nodeAt, pairOf, optimalPlaces, upTo}
 
 -- ---- a list without one of its elements

@@ -6,11 +6,11 @@ use mathlib.Core.List.{List, _∷_}
 use mathlib.Core.Bool.{Bool, true, false}
 use lib.ListN.{length}
 use lib.Dec.{eqb}
-use lib.Count.{ones, trailingZeros}
+use lib.Count.{ones}
 use lib.Pow.{pow-pos, pow-mono}
 use lib.Ieee.{Float, binary64, add, lt}
 use borrow.Author.Tests.{eqb-true, eqb-false, ne-eqb}
-use Rattle.drawing_spec.specs.Members.{All}
+use Rattle.lists.specs.Members.{All}
 use Rattle.repair_spec.specs.Pairing.{pair, Matching, matching, Choice, none, chosen, cheaper, choiceOf, without, partner, matchAll}
 use Rattle.repair_masks.proofs.Places.{partner-same, enough-fuel, without-length}
 use Rattle.repair_masks.specs.Masks.{Bit, placesOf}
@@ -36,12 +36,7 @@ needed-rest n m j p h s e =
 pub needed-more : (n m k e : ℕ) → e ≤ low m → 0 < k → k < 2 ^ e → ones m + 2 * e + 2 ≤ n → Needed n (m + k) → ⊥
 needed-more n m k e l some h few w = omega (arith, ones-lowest 64 m k e l some h)
 
--- no places at all
-pub needed-none : (n : ℕ) → n ≤ 64 → Needed n 0
-unfolding trailingZeros
-needed-none n h = omega arith
-
-tries-done : (k : ℕ) (cost row : ℕ → Float) (others : ℕ) (b : Least) → tries k cost row others 0 b ≡ b
+pub tries-done : (k : ℕ) (cost row : ℕ → Float) (others : ℕ) (b : Least) → tries k cost row others 0 b ≡ b
 unfolding tries
 tries-done zero cost row others b = refl
 tries-done (suc k) cost row others b = refl
@@ -258,6 +253,3 @@ tries-step cost row others zero b p = absurd (omega arith)
 tries-step cost row others (suc k) b p =
     tries-more k cost row others (suc k) b p
     ∙ tries-fuel k (suc k - 2 ^ low (suc k)) cost row others (suc k - 2 ^ low (suc k)) _ (omega (arith, pow-pos (low (suc k)))) (omega arith)
-
-pub tries-end : (k : ℕ) (cost row : ℕ → Float) (others : ℕ) (b : Least) → tries k cost row others 0 b ≡ b
-tries-end k cost row others b = tries-done k cost row others b

@@ -1,5 +1,5 @@
 -- One turn of each loop.
-use Prim.Native.Nat.{ℕ, zero, suc, _+_, _-_, _*_, _/_, _%_, _^_, _≤_, _<_}
+use Prim.Native.Nat.{ℕ, suc, _+_, _-_, _*_, _/_, _%_, _^_, _≤_, _<_}
 use native.Mathlib.Omega.{arith}
 use native.Mathlib.Numerals.{add-one}
 use mathlib.Core.Path.{_≡_, sym, ap, _∙_}
@@ -13,7 +13,7 @@ use Rattle.repair_spec.specs.Pairing.{Pair, pair}
 use Rattle.repair_spec.specs.PairsIn.{pairsIn, PairRoom}
 use Rattle.repair_spec.proofs.PairsIn.{pairs-more, room-more}
 use Rattle.repair_masks.specs.Masks.{Bit}
-use Rattle.repair_masks.proofs.Masks.{bit-power, lowest-bit, full-bit, bit-other, ones-without, ones-zero}
+use Rattle.repair_masks.proofs.Masks.{bit-power, lowest-bit, full-bit, bit-other, ones-without}
 use Rattle.repair_masks.specs.Table.{Least, least, lesser, low, Needed}
 use Rattle.repair_masks.proofs.Table.{needed-first, needed-rest}
 use Rattle.repair_masks.specs.Left.{leaveFrom, leaveEach, leftOut}
@@ -71,10 +71,6 @@ pub four : (n : ℕ) → 2 ≤ n → 4 ≤ 2 ^ n
 four n h = pow-mono {i = 2} {j = n} h
 
 -- ---- the pairs read back
-
-pub some-places : (m : ℕ) → 0 < ones m → 0 < m
-some-places zero h = absurd (omega (arith, ones-zero))
-some-places (suc m) h = omega arith
 
 -- the mask without a pair
 pub pair-out : (n m i j p q : ℕ) → m < 2 ^ n → n ≤ 20 → 0 < m → i ≡ low m → p ≡ 2 ^ i → q ≡ 2 ^ j → Bit j (m - 2 ^ low m)

@@ -1,23 +1,22 @@
 -- What the searches, Greedy and Optimal ask of the list of odd nodes.
-use mathlib.Core.Path.{_≡_, refl, sym, ap, _∙_}
-use mathlib.Core.Logic.{inl, inr}
-use mathlib.Core.List.{List, [], _∷_, map}
-use Prim.Native.Nat.{ℕ, zero, suc, _%_, _≤_, _<_}
-use native.Mathlib.Nat.{le-of-suc-le-suc}
+use mathlib.Core.Path.{_≡_, sym, ap, _∙_}
+use mathlib.Core.List.{List, map}
+use Prim.Native.Nat.{ℕ, _%_, _≤_, _<_}
 use native.Mathlib.Omega.{arith}
-use lib.ListN.{length, getD, take}
+use lib.ListN.{length, take}
 use lib.Ieee.{Float}
-use Rattle.drawing_spec.specs.Members.{In}
-use Rattle.graph_spec.specs.Graph.{Edge}
+use Rattle.limits.specs.Limits.{mostNodes}
 use Rattle.graph_spec.specs.Odd.{oddNodes}
-use Rattle.graph_spec.proofs.Odd.{oddNodes-member}
 use Rattle.graph_spec.proofs.Handshake.{handshake}
 use Rattle.graph_adjacency.specs.Lists.{Adjacency}
 use Rattle.graph_odd.proofs.Listed.{odd-few}
-use Rattle.graph_arrays.specs.Arrays.{nodesIn, edgesIn, EdgesHeld, AreNodes, Front}
-use Rattle.graph_arrays.proofs.Arrays.{front-at, front-nodes}
-use Rattle.repair_spec.specs.Pairing.{Pair, optimalPairs, greedyPairs}
+use Rattle.graph_arrays.specs.Arrays.{nodesIn, edgesIn, EdgesHeld, Front}
+use Rattle.graph_arrays.specs.NodeList.{NodeList}
+use Rattle.graph_arrays.proofs.Arrays.{front-at}
+use Rattle.graph_arrays.proofs.NodeList.{front-nodes}
+use Rattle.repair_spec.specs.Pairing.{optimalPairs, greedyPairs}
 use Rattle.repair_spec.specs.Repair.{rows, distanceIn}
+use Rattle.repair_spec.proofs.Repaired.{odd-at}
 use Rattle.repair_masks.specs.Places.{nodeAt, pairOf, optimalPlaces}
 use Rattle.repair_masks.proofs.Places.{optimal-first}
 use Rattle.repair_masks.proofs.Optimal.{odd-apart}
@@ -25,17 +24,9 @@ use Rattle.repair_table.specs.Tables.{matrix}
 use Rattle.repair_distances.specs.Rows.{Rows}
 use Rattle.repair_distances.proofs.Known.{table-known}
 
-in-at : (vs : List ℕ) (i : ℕ) → i < length vs → In (getD vs i 0) vs
-in-at [] i h = absurd (omega arith)
-in-at (v ∷ vs) zero h = inl refl
-in-at (v ∷ vs) (suc i) h = inr (in-at vs i (le-of-suc-le-suc h))
-
-odd-below : (n : ℕ) (es : List Edge) (i : ℕ) → i < length (oddNodes n es) → getD (oddNodes n es) i 0 < n
-odd-below n es i h = oddNodes-member n es (getD (oddNodes n es) i 0) .0 (in-at (oddNodes n es) i h) .0
-
 module _ (n m : ℕ) (a : Adjacency) (E : EdgesHeld n m a) (odd : List ℕ) (count : ℕ) (F : Front (oddNodes n (edgesIn m a)) odd count) where
-  pub odd-nodes : AreNodes n odd count
-  odd-nodes = front-nodes n (oddNodes n (edgesIn m a)) odd count F (omega (arith, odd-few (edgesIn m a) n, E .edges .few-nodes)) (odd-below n (edgesIn m a))
+  pub odd-nodes : NodeList n mostNodes odd count
+  odd-nodes = front-nodes (oddNodes n (edgesIn m a)) odd count F n mostNodes (omega (arith, odd-few (edgesIn m a) n, E .edges .few-nodes)) (odd-at n (edgesIn m a))
 
   -- more than two are four or more
   pub odd-four : 2 < count → (4 ≤ count) × (count % 2 ≡ 0)
@@ -49,7 +40,7 @@ module _ (n m : ℕ) (a : Adjacency) (E : EdgesHeld n m a) (odd : List ℕ) (cou
   optimal-is ws R =
       let vs = oddNodes n (edgesIn m a) in
       let D = distanceIn (rows n (edgesIn m a) vs) in
-      let at = front-at n vs odd count F in
+      let at = front-at vs odd count F in
       sym
       (ap (optimalPairs D) (sym (F .are))
       ∙ optimal-first count D (matrix count ws) odd (odd-nodes .long)

@@ -6,14 +6,14 @@ use Prim.Native.Nat.{ℕ, _≤_}
 use native.Mathlib.Omega.{arith}
 use lib.ListN.{length}
 use borrow.Author.Tests.{eq-eqb, ne-eqb}
-use Rattle.drawing_spec.specs.Drawing.{Settings, optimal}
+use Rattle.drawing_spec.specs.Drawing.{Settings}
 use Rattle.limits.specs.Limits.{mostOdd, refusedOdd, refusedTables}
 use Rattle.drawing_spec.specs.Refusal.{Condition, condition, refused, accepted, verdict}
 use Rattle.graph_spec.specs.Graph.{Graph}
 use Rattle.graph_spec.specs.Odd.{oddNodes}
 use Rattle.graph_adjacency.specs.Lists.{Adjacency}
-use Rattle.graph_arrays.specs.Arrays.{pointIn, nodesIn, edgesIn, graphIn}
-use Rattle.graph_arrays.proofs.Tabulate.{tabulate-length}
+use Rattle.graph_arrays.specs.Arrays.{nodesIn, edgesIn, graphIn}
+use Rattle.graph_arrays.proofs.NodeList.{nodes-count}
 use Rattle.repair_spec.specs.Pairing.{Pair, optimalPairs, greedyPairs}
 use Rattle.repair_spec.specs.PairsIn.{pairsIn}
 use Rattle.repair_spec.specs.Repair.{rows, distanceIn, pairsOf, tooManyOdd, tableShort}
@@ -55,13 +55,10 @@ neither false true p e = absurd (omega arith)
 neither false false p e = refl
 
 module _ (n m : ℕ) (xs ys : List ℕ) (a : Adjacency) (s : Settings) where
-  pub node-count : length (nodesIn n xs ys) ≡ n
-  node-count = tabulate-length (pointIn xs ys) n 0
-
   module _ (vs : List ℕ) where
     pub pairs-optimal : s .pairing ≡ 1 → optimalPairs (distanceIn (rows n (edgesIn m a) vs)) vs ≡ pairsOf (graphIn n m xs ys a) s vs
     unfolding pairsOf
-    pairs-optimal h = sym (rw (eq-eqb (s .pairing) 1 h, pairsOf, node-count))
+    pairs-optimal h = sym (rw (eq-eqb (s .pairing) 1 h, pairsOf, (nodes-count n xs ys)))
 
     pub pairs-greedy : (s .pairing ≡ 1 → ⊥) → greedyPairs (length vs) (nodesIn n xs ys) vs ≡ pairsOf (graphIn n m xs ys a) s vs
     unfolding pairsOf
@@ -73,7 +70,7 @@ module _ (n m : ℕ) (xs ys : List ℕ) (a : Adjacency) (s : Settings) where
     unfolding pairsFor tableConditions afterChecks
     found-refused h =
         sym
-        (ap (afterChecks m a s floats bytes (graphIn n m xs ys a)) node-count
+        (ap (afterChecks m a s floats bytes (graphIn n m xs ys a)) (nodes-count n xs ys)
         ∙ first (tooManyOdd mostOdd s (length (oddNodes n (edgesIn m a)))) (tableShort mostOdd s (length (oddNodes n (edgesIn m a))) floats bytes) k _ is h)
 
     pub found-pairs : k ≡ 0 → (count : ℕ) (ps : List Pair) → count ≡ length (oddNodes n (edgesIn m a)) → ps ≡ pairsOf (graphIn n m xs ys a) s (oddNodes n (edgesIn m a))
@@ -82,5 +79,5 @@ module _ (n m : ℕ) (xs ys : List ℕ) (a : Adjacency) (s : Settings) where
     found-pairs z count ps c e =
         ap (λ (j : ℕ). found.pairs j ps) c ∙ ap (found.pairs (length (oddNodes n (edgesIn m a)))) e
         ∙ sym
-        (ap (afterChecks m a s floats bytes (graphIn n m xs ys a)) node-count
+        (ap (afterChecks m a s floats bytes (graphIn n m xs ys a)) (nodes-count n xs ys)
         ∙ neither (tooManyOdd mostOdd s (length (oddNodes n (edgesIn m a)))) (tableShort mostOdd s (length (oddNodes n (edgesIn m a))) floats bytes) _ (sym is ∙ z))

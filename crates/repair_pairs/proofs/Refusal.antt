@@ -1,11 +1,10 @@
 -- Laws of specs/Refusal.
-use mathlib.Core.Path.{_≡_, sym, ap, _∙_}
+use mathlib.Core.Path.{_≡_}
 use mathlib.Core.Bool.{true}
 use Prim.Native.Nat.{ℕ, _+_, _*_, _^_, _≤_, _<_}
-use native.Mathlib.Nat.{mul-le-mul, lt-of-not-le}
+use native.Mathlib.Nat.{lt-of-not-le}
 use native.Mathlib.Decide.{decLe}
 use native.Mathlib.Omega.{arith}
-use lib.Pow.{pow-mono}
 use lib.Dec.{eqb}
 use borrow.Author.Tests.{eq-eqb, ne-eqb, le-leb, lt-leb, lt-ltb, le-ltb}
 use Rattle.limits.specs.Limits.{mostOdd, refusedOdd, refusedTables}
@@ -56,10 +55,3 @@ module _ (s : Settings) (n floats bytes : ℕ) where
         ]
       ]
     ]
-
--- the sizes of a table for so few nodes
-pub square-small : (n : ℕ) → n ≤ mostOdd → n * n ≤ 400
-square-small n h = mul-le-mul h h
-
-pub power-small : (n : ℕ) → n ≤ mostOdd → 2 ^ n ≤ 1048576
-power-small n h = pow-mono {i = n} {j = mostOdd} h

@@ -2,14 +2,13 @@
 use mathlib.Core.Path.{_≡_, refl, sym, ap, _∙_}
 use mathlib.Core.Logic.{inl, inr}
 use mathlib.Core.List.{List, [], _∷_}
-use Prim.Native.Nat.{ℕ, zero, suc, _+_, _*_, _%_, _≤_, _<_}
+use Prim.Native.Nat.{ℕ, zero, suc, _+_, _*_, _≤_, _<_}
 use native.Mathlib.Nat.{lt-of-not-le, add-suc, suc-add, le-of-suc-le-suc}
 use native.Mathlib.Decide.{decLe}
 use native.Mathlib.Omega.{arith}
 use lib.ListN.{length, getD}
 use Rattle.limits.specs.Limits.{mostNodes, mostPairs}
-use Rattle.drawing_spec.specs.Drawing.{Settings, optimal}
-use Rattle.drawing_spec.proofs.Members.{either}
+use Rattle.drawing_spec.specs.Drawing.{Settings}
 use Rattle.graph_spec.specs.Graph.{Edge, Graph}
 use Rattle.graph_spec.specs.Odd.{hit, oddNodes}
 use Rattle.graph_spec.proofs.Sums.{hit-same, HitCases, hit-cases}
@@ -18,9 +17,9 @@ use Rattle.graph_spec.proofs.Occurs.{count, count-outside}
 use Rattle.graph_spec.specs.Ways.{Inside}
 use Rattle.graph_odd.proofs.Listed.{odd-few}
 use Rattle.repair_spec.specs.Pairing.{Pair, pair}
-use Rattle.repair_spec.proofs.Pairs.{ends, AllButTwo, greedy-pairs}
-use Rattle.repair_spec.proofs.Matched.{optimal-pairs}
-use Rattle.repair_spec.specs.Repair.{rows, distanceIn, pairsOf}
+use Rattle.repair_spec.proofs.Pairs.{ends}
+use Rattle.repair_spec.specs.Repair.{pairsOf}
+use Rattle.repair_spec.proofs.Repaired.{pairs-of}
 use Rattle.repair_spec.specs.PairsIn.{pairsIn}
 use Rattle.repair_spec.proofs.PairsIn.{pairs-count}
 use Rattle.repair_pairs.proofs.Few.{pairs-few}
@@ -64,19 +63,13 @@ ends-have [] j h = absurd (omega arith)
 ends-have (p ∷ ps) zero h = (omega (arith, hit-same (p .from)), omega (arith, hit-same (p .to)))
 ends-have (p ∷ ps) (suc j) h = let r = ends-have ps j (le-of-suc-le-suc h) in (omega (arith, r .0), omega (arith, r .1))
 
-all-but-two : (g : Graph) (s : Settings) (vs : List ℕ) → 2 < length vs → length vs % 2 ≡ 0 → AllButTwo vs (pairsOf g s vs)
-unfolding pairsOf
-all-but-two g s vs h e =
-    either (AllButTwo vs) _ _ (optimal-pairs (distanceIn (rows (length (g .nodes)) (g .edges) vs)) vs (omega arith) e)
-    (greedy-pairs (length vs) (g .nodes) vs (omega arith) (omega arith) e) (optimal s)
-
 module _ (n : ℕ) (es : List Edge) (inside : Inside n es) (g : Graph) (s : Settings) where
   -- their ends are odd nodes, each once
   ends-odd : (v : ℕ) → count v (ends (pairsOf g s (oddNodes n es))) ≤ count v (oddNodes n es)
   unfolding count ends
   ends-odd v = elim (decLe (length (oddNodes n es)) 2) [
     | yes h ↦ none (pairs-few g s (oddNodes n es) h)
-    | no h ↦ omega (arith, all-but-two g s (oddNodes n es) (lt-of-not-le h) (handshake n es inside) .counts v)
+    | no h ↦ omega (arith, pairs-of g s (oddNodes n es) (lt-of-not-le h) (handshake n es inside) .counts v)
   ]
     where
       none : pairsOf g s (oddNodes n es) ≡ [] → count v (ends (pairsOf g s (oddNodes n es))) ≤ count v (oddNodes n es)

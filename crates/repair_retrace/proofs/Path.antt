@@ -1,15 +1,16 @@
 -- The shortest path that code finds and keeps at the end of an array. Assumes nothing.
 use mathlib.Core.Path.{_≡_, sym, ap, subst, _∙_}
 use mathlib.Core.Logic.{inl, inr}
-use mathlib.Core.List.{List, [], _∷_}
-use Prim.Native.Nat.{ℕ, zero, suc, _+_, _-_, _≤_, _<_}
+use mathlib.Core.List.{List, []}
+use Prim.Native.Nat.{ℕ, suc, _+_, _-_, _≤_, _<_}
 use native.Mathlib.Omega.{arith}
 use lib.ListN.{length, getD, drop, length-drop}
 use lib.Seq.{getD-drop}
 use lib.Ieee.{Float, binary64}
 use Rattle.limits.specs.Limits.{mostNodes}
 use Rattle.sums.specs.Key.{key}
-use Rattle.drawing_spec.specs.Members.{All}
+use Rattle.lists.specs.Members.{All}
+use Rattle.lists.proofs.Members.{all-at}
 use Rattle.graph_spec.specs.Graph.{Edge}
 use Rattle.graph_spec.specs.Ways.{Inside}
 use Rattle.graph_spec.specs.Weights.{Searchable}
@@ -43,11 +44,6 @@ found-shortest n es G s t isNode ds F = serves-exit n es G s t ds (F .nonneg) se
       ];
     }
 
-all-at : (P : ℕ → Type 0) (xs : List ℕ) → All P xs → (i : ℕ) → i < length xs → P (getD xs i 0)
-all-at P [] a i h = absurd (omega (arith, h))
-all-at P (x ∷ xs) a zero h = a .0
-all-at P (x ∷ xs) a (suc i) h = all-at P xs (a .1) i (omega arith)
-
 -- A path that is found leads along nodes. It stands in an array from the place `first` on.
 module _ (n : ℕ) (es : List Edge) (inside : Inside n es) (s t : ℕ) (isNode : s < n) (path : List ℕ) (long : length path ≡ mostNodes) (first : ℕ)
     (is : found (drop first path) ≡ shortestPath n es s t) where
@@ -66,7 +62,7 @@ module _ (n : ℕ) (es : List Edge) (inside : Inside n es) (s t : ℕ) (isNode :
   nodes-inside j l h =
       let there : first + (j - first) ≡ j = omega arith in
       let at-j : getD (drop first path) (j - first) 0 ≡ getD path j 0 = getD-drop first path (j - first) 0 ∙ ap (λ (k : ℕ). getD path k 0) there in
-      subst (λ (v : ℕ). v < n) at-j (all-at (λ (v : ℕ). v < n) (drop first path) path-inside (j - first) (omega (arith, length-drop first path)))
+      subst (λ (v : ℕ). v < n) at-j (all-at (λ (v : ℕ). v < n) (drop first path) path-inside (j - first) 0 (omega (arith, length-drop first path)))
 
 -- so many copies are laid along it
 pub copies-are : (path : List ℕ) (first : ℕ) → length path ≡ mostNodes → length (drop first path) - 1 ≡ copiesFrom first

@@ -9,7 +9,7 @@ use lib.ListN.{getD}
 use lib.Ieee.{nan, binary64}
 use Rattle.limits.specs.Limits.{mostNodes, edgeRoom, arcRoom}
 use Rattle.sums.specs.Key.{Nonneg}
-use Rattle.drawing_spec.specs.Members.{In}
+use Rattle.lists.specs.Members.{In}
 use Rattle.graph_spec.specs.Graph.{Arc, edgesAt}
 use Rattle.graph_spec.specs.Weights.{Weights}
 use Rattle.graph_spec.proofs.Connected.{joins-inside}

@@ -8,8 +8,8 @@ use Rattle.sums.specs.Key.{Nonneg}
 use Rattle.sums.proofs.Sum.{add-nonneg}
 use Rattle.graph_spec.specs.Graph.{Edge, Arc, edgesAt}
 use Rattle.graph_spec.specs.Ways.{Joins}
-use Rattle.drawing_spec.specs.Members.{In}
-use Rattle.graph_spec.proofs.EdgesAt.{edgeAt, number-of, edgesAt-all, edgesAt-arc, arc-joins}
+use Rattle.lists.specs.Members.{In}
+use Rattle.graph_spec.proofs.EdgesAt.{edgeAt, number-of, edgesAt-all, edgesAt-arc, arc-joins, other-end}
 use Rattle.graph_spec.specs.Weights.{Weights}
 use Rattle.repair_spec.specs.Relax.{AllNonneg}
 use Rattle.repair_spec.proofs.Relax.{Improved, Next, kept, still-nonneg, offers-iff, and-then, improve-is}
@@ -40,13 +40,6 @@ module _ (d : Float) (n : Nonneg binary64 d) where
       let K = relaxArcs-is rs _ (λ q i. weights q (inr i)) (still-nonneg I g (λ x c o. rw (o .1) sum)) in
       offers-iff (and-then I K) (by-first r rs)
 
-  -- an edge leads from one node to one node
-  joins-same : (e : Edge) (u x y : ℕ) → Joins e u x → Joins e u y → x ≡ y
-  joins-same e u x y (inl p) (inl q) = sym (p .1) ∙ q .1
-  joins-same e u x y (inl p) (inr q) = sym (p .1) ∙ q .1 ∙ sym (p .0) ∙ q .0
-  joins-same e u x y (inr p) (inl q) = sym (p .0) ∙ q .0 ∙ sym (p .1) ∙ q .1
-  joins-same e u x y (inr p) (inr q) = sym (p .0) ∙ q .0
-
   -- the costs by a node's arcs are those by its edges
   by-edges : (es : List Edge) (u x : ℕ) (c : Float) → ByArc d (edgesAt es u) x c ↔ Next u d es x c
   by-edges es u x c = (to, from)
@@ -62,7 +55,7 @@ module _ (d : Float) (n : Nonneg binary64 d) where
           let a = edgesAt-all es (j .number) u x (j .isEdge) (rw (j .is) (o .2)) in
           let k = edgesAt-arc es u (a .arc) (a .isIn) in
           let e : edgeAt es (a .arc .number) ≡ o .0 = ap (edgeAt es) (a .number-is) ∙ j .is in
-          (a .arc, a .isIn, joins-same (o .0) u (a .arc .to) x (rw e at (k .joins)) (o .2), o .3 ∙ ap (add binary64 d) (sym (k .weight-is ∙ ap (λ (f : Edge). f .weight) e)))
+          (a .arc, a .isIn, other-end (o .0) u (a .arc .to) x (rw e at (k .joins)) (o .2), o .3 ∙ ap (add binary64 d) (sym (k .weight-is ∙ ap (λ (f : Edge). f .weight) e)))
 
   pub relaxed : (es : List Edge) → Weights es → (u : ℕ) (ds : List Float) → AllNonneg ds → Improved (Next u d es) ds (relaxArcs d (edgesAt es u) ds)
   relaxed es weights u ds g =

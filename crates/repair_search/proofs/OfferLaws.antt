@@ -1,20 +1,22 @@
 -- Laws of specs/Offer.
 use mathlib.Core.Path.{_≡_, refl, sym, ap, _∙_}
 use mathlib.Core.Logic.{inl, inr}
-use mathlib.Core.List.{List, [], _∷_}
+use mathlib.Core.List.{List}
 use mathlib.Core.Bool.{Bool, true, false}
-use Prim.Native.Nat.{ℕ, zero, suc, _≤_, _<_}
-use native.Mathlib.Nat.{le-antisymm, not-suc-le-zero, le-of-suc-le-suc}
+use Prim.Native.Nat.{ℕ, _≤_, _<_}
+use native.Mathlib.Nat.{le-antisymm}
 use native.Mathlib.Decide.{decLe}
 use native.Mathlib.Omega.{arith}
 use lib.ListN.{length, getD, set, length-set}
 use lib.Seq.{getD-set-same, getD-set-other}
 use lib.Ieee.{Float, nan, binary64, lt}
 use Rattle.limits.specs.Limits.{mostNodes}
+use Rattle.lists.proofs.Elements.{getD-inside}
 use Rattle.sums.specs.Key.{Nonneg}
+use Rattle.sums.proofs.KeyLaws.{lt-true}
 use Rattle.repair_tournament.specs.Tree.{Stored}
 use Rattle.repair_spec.specs.Distance.{infinity, distanceAt, improve}
-use Rattle.repair_spec.proofs.Relax.{still-nonneg, improve-is, lt-true}
+use Rattle.repair_spec.proofs.Relax.{still-nonneg, improve-is}
 use Rattle.repair_search.specs.Offer.{Held, Offered, Together}
 
 pub together-same : (n : ℕ) (ds t : List Float) → Together n ds t ds t
@@ -25,11 +27,6 @@ together-then n ds t ds' t' ds'' t'' f g w l = elim (g w l) [
   | inl q ↦ elim (f w l) [ inl p ↦ inl (q .0 ∙ p .0, q .1 ∙ p .1) | inr p ↦ inr (q .1 ∙ p .0 ∙ sym (q .0), rw (q .0) (p .1)) ]
   | inr q ↦ elim (f w l) [ inl p ↦ inr (q .0, rw (p .0) at (q .1)) | inr p ↦ inr (q .0, omega (arith, q .1, p .1)) ]
 ]
-
-pub getD-inside : (l : List Float) (i : ℕ) (a b : Float) → i < length l → getD l i a ≡ getD l i b
-getD-inside [] i a b h = absurd (not-suc-le-zero h)
-getD-inside (x ∷ l) zero a b h = refl
-getD-inside (x ∷ l) (suc i) a b h = getD-inside l i a b (le-of-suc-le-suc h)
 
 improve-lower : (ds : List Float) (v : ℕ) (c : Float) → lt c (distanceAt ds v) ≡ true → improve ds v c ≡ set ds v c
 unfolding improve

@@ -12,9 +12,9 @@ use lib.Seq.{getD-set-same, getD-set-other}
 use lib.Ieee.{Float, binary64, lt}
 use Rattle.limits.specs.Limits.{mostNodes}
 use Rattle.sums.specs.Key.{Nonneg, key}
-use Rattle.sums.proofs.KeyLaws.{key-top}
+use Rattle.sums.proofs.KeyLaws.{key-top, lt-true, lt-false}
 use Rattle.sums.proofs.Sum.{zero-nonneg, inf-nonneg}
-use Rattle.drawing_spec.proofs.Members.{getD-same, set-cases}
+use Rattle.lists.proofs.Elements.{getD-same, set-cases}
 use Rattle.graph_spec.specs.Graph.{Edge, edgesAt}
 use Rattle.graph_spec.specs.Ways.{Inside}
 use Rattle.graph_spec.proofs.Connected.{joins-inside}
@@ -27,7 +27,7 @@ use Rattle.repair_spec.specs.Distance.{infinity, zeroLength, distanceAt, distan
 use Rattle.repair_spec.specs.Cost.{Way, here, step, Least}
 use Rattle.repair_spec.proofs.Cost.{least-unique}
 use Rattle.repair_spec.specs.Relax.{keyAt, AllNonneg}
-use Rattle.repair_spec.proofs.Relax.{Improved, Next, lt-true, lt-false}
+use Rattle.repair_spec.proofs.Relax.{Improved, Next}
 use Rattle.repair_spec.proofs.Nearest.{Done, Open}
 use Rattle.repair_spec.specs.Rounds.{UpTo}
 use Rattle.repair_spec.proofs.Rounds.{top, Chosen, Run, begin, round, Invariant, run-invariant, run-settled, run-up-to, done-stays}

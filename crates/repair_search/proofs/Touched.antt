@@ -14,15 +14,14 @@ use lib.Ieee.{Float, nan, binary64, lt}
 use borrow.Author.Tests.{lt-ltb}
 use Rattle.limits.specs.Limits.{mostNodes}
 use Rattle.sums.specs.Key.{Nonneg, key}
-use Rattle.sums.proofs.KeyLaws.{key-top, key-inj, lt-key}
+use Rattle.sums.proofs.KeyLaws.{key-top, lt-key, lt-true}
 use Rattle.sums.proofs.Sum.{inf-nonneg}
-use Rattle.drawing_spec.proofs.Members.{getD-same}
+use Rattle.lists.proofs.Elements.{getD-same}
 use Rattle.repair_tournament.specs.Tree.{value, Tree, Stored}
 use Rattle.repair_tournament.proofs.Tree.{tree-none}
 use Rattle.repair_spec.specs.Distance.{infinity, zeroLength, distanceAt}
-use Rattle.repair_spec.proofs.Relax.{lt-true, lt-false}
 use Rattle.repair_search.specs.Touched.{reached, Listed, ListedWith, Touched, Unreached}
-use Rattle.repair_search.proofs.OfferLaws.{getD-inside}
+use Rattle.lists.proofs.Elements.{getD-inside}
 
 -- ---- below infinity
 
@@ -30,9 +29,6 @@ use Rattle.repair_search.proofs.OfferLaws.{getD-inside}
 pub below-infinity : (c d : Float) → Nonneg binary64 c → Nonneg binary64 d → lt c d ≡ true → lt c infinity ≡ true
 below-infinity c d p q h =
     lt-key binary64 c infinity p (inf-nonneg binary64) ∙ lt-ltb (key binary64 c) (key binary64 infinity) (le-trans (lt-true c d p q h) (key-top binary64 d q))
-
-pub not-below : (d : Float) → Nonneg binary64 d → lt d infinity ≡ false → d ≡ infinity
-not-below d p h = key-inj binary64 d infinity p (inf-nonneg binary64) (le-antisymm (key-top binary64 d p) (lt-false d infinity p (inf-nonneg binary64) h))
 
 pub zero-below : lt zeroLength infinity ≡ true
 unfolding lt

@@ -105,6 +105,23 @@ fn distance_of(dist: &[f64; MOST_NODES], goal: usize) -> f64
     repair_tournament::infinity()
 }
 
+// The node that was listed last; s where none is.
+fn last_listed(
+    dist: &[f64; MOST_NODES],
+    touched: &[u16; MOST_NODES],
+    n: usize,
+    count: usize,
+    s: usize,
+) -> usize
+    requires { ⌜ (s < n) × (length (now dist) ≡ mostNodes) × Listed n (now dist) (now touched) count ⌝ }
+    ensures { λ r. ⌜ r < n ⌝ }
+{
+    if count == 0 {
+        return s;
+    }
+    widen::wide(touched[count - 1])
+}
+
 // The least distances from s to each of n nodes, up to that of the goal: one that is lower than the goal's or
 // equal to it is the least, and no node with a higher one is nearer than the goal. With a goal that is no
 // node, as MOST_NODES, all are least. The answer is how many nodes were reached, which are listed in `touched`.
@@ -137,7 +154,8 @@ pub fn search_from(
         if !(d < limit) {
             break;
         }
-        let u = repair_tournament::least(tree, n);
+        let last = last_listed(dist, touched, n, count, s);
+        let u = repair_tournament::least_at(tree, n, last);
         count = relax(
             ends,
             weights,
@@ -177,44 +195,4 @@ pub fn clear(
         repair_tournament::store(tree, n, v, infinity);
         j += 1;
     }
-}
-
-// The distance of each node; infinity where no way leads to it.
-pub struct Distances {
-    pub at: [f64; MOST_NODES],
-}
-
-// A search in arrays of its own.
-pub fn least_distances(
-    ends: &[u16; ARC_ROOM],
-    weights: &[f64; EDGE_ROOM],
-    next: &[u16; ARC_ROOM],
-    heads: &[u16; 2 * MOST_NODES],
-    n: usize,
-    m: usize,
-    s: usize,
-    goal: usize,
-) -> Distances
-    requires { ⌜ s < n ⌝ }
-    requires { ⌜ EdgesHeld n m (adjacency (now ends) (now weights) (now next) (now heads)) ⌝ }
-    ensures { λ r. ⌜ Found (edgesIn m (adjacency (now (ends .entry)) (now (weights .entry)) (now (next .entry)) (now (heads .entry)))) s goal (r .at) ⌝ }
-{
-    let infinity = repair_tournament::infinity();
-    let mut dist = [infinity; MOST_NODES];
-    let mut tree = [infinity; 2 * MOST_NODES];
-    let mut touched = [0; MOST_NODES];
-    search_from(
-        ends,
-        weights,
-        next,
-        heads,
-        n,
-        m,
-        &mut dist,
-        &mut tree,
-        &mut touched,
-        s,
-        goal,
-    );
-    Distances { at: dist }
 }

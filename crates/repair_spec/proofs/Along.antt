@@ -9,7 +9,7 @@ use lib.Ieee.{Float}
 use borrow.Author.Tests.{eqb-true}
 use Rattle.graph_spec.specs.Graph.{Edge, Arc, edgesAt}
 use Rattle.graph_spec.specs.Ways.{Joined, Walks}
-use Rattle.drawing_spec.specs.Members.{In}
+use Rattle.lists.specs.Members.{In}
 use Rattle.graph_spec.proofs.Connected.{joined-sym}
 use Rattle.graph_spec.proofs.EdgesAt.{arc-joins}
 use Rattle.repair_spec.specs.Distance.{distanceAt, distances}

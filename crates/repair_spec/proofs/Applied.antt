@@ -9,12 +9,12 @@ use lib.ListN.{length}
 use lib.Dec.{leb}
 use borrow.Author.Tests.{leb-true}
 use Rattle.limits.specs.Limits.{refusedPath}
-use Rattle.drawing_spec.proofs.Members.{all-append}
+use Rattle.lists.proofs.Members.{all-append}
 use Rattle.graph_spec.specs.Graph.{Edge}
 use Rattle.graph_spec.specs.Odd.{hit, degree}
 use Rattle.graph_spec.specs.Count.{sumOver, lineSum, joint, joining}
 use Rattle.graph_spec.specs.Ways.{Inside, Joined, Walks}
-use Rattle.drawing_spec.specs.Members.{All}
+use Rattle.lists.specs.Members.{All}
 use Rattle.graph_spec.proofs.Sums.{hit-same, sumOver-append}
 use Rattle.graph_spec.proofs.Connected.{joins-inside}
 use Rattle.graph_spec.proofs.Occurs.{count}

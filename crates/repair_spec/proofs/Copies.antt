@@ -12,15 +12,15 @@ use lib.Ieee.{binary64, add}
 use borrow.Author.Tests.{eqb-true, eqb-false}
 use Rattle.sums.specs.Key.{Nonneg}
 use Rattle.sums.proofs.Sum.{add-nonneg}
-use Rattle.drawing_spec.proofs.Members.{in-left, in-append}
+use Rattle.lists.proofs.Members.{in-left, in-append}
 use Rattle.graph_spec.specs.Graph.{Edge, edge, Arc, edgesAt}
 use Rattle.graph_spec.specs.Odd.{hit, degree}
 use Rattle.graph_spec.specs.Count.{sumOver, lineSum, joint, joining}
 use Rattle.graph_spec.specs.Ways.{Joins, Joined, Inside, Walks}
-use Rattle.drawing_spec.specs.Members.{In}
+use Rattle.lists.specs.Members.{In}
 use Rattle.graph_spec.proofs.Sums.{sumOver-append, degree-sum}
 use Rattle.graph_spec.proofs.Connected.{joined-more}
-use Rattle.graph_spec.proofs.EdgesAt.{edgeAt, number-of, edgesAt-all, edgesAt-arc, arc-joins}
+use Rattle.graph_spec.proofs.EdgesAt.{edgeAt, number-of, edgesAt-all, edgesAt-arc, arc-joins, other-end}
 use Rattle.repair_spec.specs.Copies.{weightTo, Laid, lay}
 use Rattle.graph_spec.specs.Weights.{Weights}
 
@@ -89,13 +89,6 @@ joins-trans e f x y (inl p) (inl q) = inl (p .0 ∙ q .0, p .1 ∙ q .1)
 joins-trans e f x y (inl p) (inr q) = inr (p .0 ∙ q .0, p .1 ∙ q .1)
 joins-trans e f x y (inr p) (inl q) = inr (p .0 ∙ q .1, p .1 ∙ q .0)
 joins-trans e f x y (inr p) (inr q) = inl (p .0 ∙ q .1, p .1 ∙ q .0)
-
--- an edge has one end other than u
-other-end : (e : Edge) (u v w : ℕ) → Joins e u v → Joins e u w → v ≡ w
-other-end e u v w (inl p) (inl q) = sym (p .1) ∙ q .1
-other-end e u v w (inl p) (inr q) = sym (p .1) ∙ q .1 ∙ sym (p .0) ∙ q .0
-other-end e u v w (inr p) (inl q) = sym (p .0) ∙ q .0 ∙ sym (p .1) ∙ q .1
-other-end e u v w (inr p) (inr q) = sym (p .0) ∙ q .0
 
 -- the weight taken is that of an arc to v, where there is one
 weightTo-is : (v : ℕ) (rs : List Arc) (q : Arc) → In q rs → q .to ≡ v → (r : Arc) × In r rs × (r .to ≡ v) × (weightTo v rs ≡ r .weight)

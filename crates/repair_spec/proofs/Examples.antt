@@ -1,5 +1,5 @@
 -- Repair's choices worked out on small graphs.
-use Prim.Native.Nat.{ℕ, _+_, _^_}
+use Prim.Native.Nat.{ℕ, _+_}
 use mathlib.Core.Path.{_≡_, refl}
 use mathlib.Core.List.{List, [], _∷_, map}
 use mathlib.Core.Bool.{true, false}
@@ -12,7 +12,7 @@ use Rattle.graph_spec.specs.Graph.{Edge, edge, Graph}
 use Rattle.repair_spec.specs.Distance.{zeroLength, distanceAt, distances}
 use Rattle.repair_spec.specs.Retrace.{tolerance, found, shortestPath}
 use Rattle.repair_spec.specs.Pairing.{pair, greedyPairs, optimalPairs}
-use Rattle.repair_spec.specs.Repair.{Repairing, stopped, repaired, drawn, applyMatching, pairsOf, close, fixParity, tooManyOdd, tableShort}
+use Rattle.repair_spec.specs.Repair.{Repairing, stopped, repaired, applyMatching, pairsOf, close, fixParity, tooManyOdd, tableShort}
 
 -- ---- lengths: 1, the least f64 above 1, and 2 ^ -53
 

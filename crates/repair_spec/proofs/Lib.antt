@@ -14,4 +14,3 @@ pub mod Repair
 pub mod Repaired
 pub mod Rounds
 pub mod Stops
-pub mod Retraced

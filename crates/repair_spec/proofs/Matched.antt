@@ -9,7 +9,7 @@ use lib.ListN.{length}
 use lib.Dec.{eqb}
 use lib.Ieee.{Float, lt}
 use borrow.Author.Tests.{eqb-true}
-use Rattle.drawing_spec.proofs.Members.{either}
+use Rattle.lists.proofs.Members.{either}
 use Rattle.graph_spec.specs.Odd.{one, hit}
 use Rattle.graph_spec.proofs.Sums.{hit-same}
 use Rattle.graph_spec.proofs.Occurs.{count}

@@ -11,7 +11,7 @@ use lib.Ieee.{Float, binary64, lt}
 use Rattle.sums.specs.Key.{Nonneg, key}
 use Rattle.repair_spec.specs.Distance.{distanceAt, Nearest, pick}
 use Rattle.repair_spec.specs.Relax.{keyAt, AllNonneg}
-use Rattle.repair_spec.proofs.Relax.{lt-true, lt-false}
+use Rattle.sums.proofs.KeyLaws.{lt-true, lt-false}
 
 abbrev pub Done : List Bool → ℕ → Type 0
 Done done v = getD done v false ≡ true

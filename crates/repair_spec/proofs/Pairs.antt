@@ -11,11 +11,13 @@ use lib.Seq.{getD-set-other, getD-take}
 use lib.Dec.{ltb}
 use borrow.Author.Tests.{ltb-true, ltb-false}
 use Rattle.drawing_spec.specs.Drawing.{Point}
-use Rattle.drawing_spec.proofs.Members.{either, set-cases}
+use Rattle.lists.proofs.Members.{either}
+use Rattle.lists.proofs.Elements.{set-cases}
 use Rattle.graph_spec.specs.Chain.{squared}
+use Rattle.graph_spec.specs.Graph.{noPoint}
 use Rattle.graph_spec.specs.Odd.{hit}
 use Rattle.graph_spec.proofs.Occurs.{count}
-use Rattle.repair_spec.specs.Pairing.{Pair, pair, Closest, nothing, between, closer, closestTo, closest, swapRemove, greedyPairs, noPoint}
+use Rattle.repair_spec.specs.Pairing.{Pair, pair, Closest, nothing, between, closer, closestTo, closest, swapRemove, greedyPairs}
 
 -- both nodes of every pair
 unfoldable pub ends : List Pair → List ℕ

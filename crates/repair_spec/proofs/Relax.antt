@@ -9,23 +9,17 @@ use lib.ListN.{length, set, length-set}
 use lib.Seq.{getD-set-same}
 use lib.Dec.{eqb}
 use lib.Ieee.{Float, binary64, add, lt}
-use borrow.Author.Tests.{ltb-true, ltb-false, eqb-true, eqb-false}
+use borrow.Author.Tests.{eqb-true, eqb-false}
 use Rattle.sums.specs.Key.{Nonneg, key}
-use Rattle.sums.proofs.KeyLaws.{lt-key}
+use Rattle.sums.proofs.KeyLaws.{lt-true, lt-false}
 use Rattle.sums.proofs.Sum.{add-nonneg}
-use Rattle.drawing_spec.proofs.Members.{set-cases}
+use Rattle.lists.proofs.Elements.{set-cases}
 use Rattle.graph_spec.specs.Graph.{Edge}
 use Rattle.graph_spec.specs.Ways.{Joins}
-use Rattle.drawing_spec.specs.Members.{In}
+use Rattle.lists.specs.Members.{In}
 use Rattle.repair_spec.specs.Distance.{infinity, distanceAt, improve, relax, relaxAll}
 use Rattle.graph_spec.specs.Weights.{Weights}
 use Rattle.repair_spec.specs.Relax.{AllNonneg, keyAt}
-
-pub lt-true : (x y : Float) → Nonneg binary64 x → Nonneg binary64 y → lt x y ≡ true → key binary64 x < key binary64 y
-lt-true x y p q h = ltb-true (key binary64 x) (key binary64 y) (sym (lt-key binary64 x y p q) ∙ h)
-
-pub lt-false : (x y : Float) → Nonneg binary64 x → Nonneg binary64 y → lt x y ≡ false → key binary64 y ≤ key binary64 x
-lt-false x y p q h = ltb-false (key binary64 x) (key binary64 y) (sym (lt-key binary64 x y p q) ∙ h)
 
 -- of the costs that are offered for nodes, each that is lower is taken, and nothing else changes
 pub record Improved (Offer : ℕ → Float → Type 0) (old new : List Float) : Type 0 where

@@ -1,6 +1,6 @@
 -- What repair leaves: the graph with copies along its retraces, and none or two odd nodes.
-use Prim.Native.Nat.{ℕ, zero, suc, _+_, _%_, _≤_, _<_}
-use native.Mathlib.Nat.{lt-of-not-le, le-of-suc-le-suc}
+use Prim.Native.Nat.{ℕ, _+_, _%_, _≤_, _<_}
+use native.Mathlib.Nat.{lt-of-not-le}
 use native.Mathlib.Omega.{arith}
 use mathlib.Core.Path.{_≡_, refl, sym, ap, _∙_, subst}
 use mathlib.Core.Logic.{_⊎_, inl, inr}
@@ -10,8 +10,7 @@ use lib.ListN.{length, getD}
 use lib.Dec.{eqb, leb}
 use borrow.Author.Tests.{leb-true, leb-false, eqb-true, eqb-false}
 use Rattle.drawing_spec.specs.Drawing.{Settings, optimal, closing}
-use Rattle.drawing_spec.proofs.Members.{either}
-use Rattle.drawing_spec.specs.Members.{In}
+use Rattle.lists.proofs.Members.{either, in-at}
 use Rattle.graph_spec.specs.Graph.{Edge, Graph}
 use Rattle.graph_spec.specs.Odd.{hit, degree, oddNodes}
 use Rattle.graph_spec.specs.Ways.{Inside}
@@ -57,14 +56,9 @@ pair-of (x ∷ y ∷ z ∷ vs) h v = absurd (omega arith)
 pub odd-below : (n : ℕ) (es : List Edge) (v : ℕ) → 0 < count v (oddNodes n es) → v < n
 odd-below n es v h = lt-of-not-le (λ l. omega (arith, count-outside es n v 0 (λ u a b q. omega arith)))
 
-in-at : (vs : List ℕ) (i : ℕ) → i < length vs → In (getD vs i 0) vs
-in-at [] i h = absurd (omega arith)
-in-at (v ∷ vs) zero h = inl refl
-in-at (v ∷ vs) (suc i) h = inr (in-at vs i (le-of-suc-le-suc h))
-
 -- the odd node at the place i is a node
 pub odd-at : (n : ℕ) (es : List Edge) (i : ℕ) → i < length (oddNodes n es) → getD (oddNodes n es) i 0 < n
-odd-at n es i h = oddNodes-member n es (getD (oddNodes n es) i 0) .0 (in-at (oddNodes n es) i h) .0
+odd-at n es i h = oddNodes-member n es (getD (oddNodes n es) i 0) .0 (in-at (oddNodes n es) i 0 h) .0
 
 module _ (n : ℕ) (es fs : List Edge) (ps : List Pair) (flips : (v : ℕ) → (degree fs v + degree es v + count v (ends ps)) % 2 ≡ 0) where
   -- where the pairs use all odd nodes but two, those two are left odd

@@ -13,7 +13,7 @@ use lib.Ieee.{Float, binary64, add}
 use Rattle.sums.specs.Key.{Nonneg, key}
 use Rattle.sums.proofs.KeyLaws.{key-top}
 use Rattle.sums.proofs.Sum.{add-above, add-mono, zero-nonneg, zero-key, inf-nonneg}
-use Rattle.drawing_spec.proofs.Members.{set-cases, getD-same}
+use Rattle.lists.proofs.Elements.{set-cases, getD-same}
 use Rattle.graph_spec.specs.Graph.{Edge}
 use Rattle.graph_spec.specs.Odd.{one}
 use Rattle.graph_spec.specs.Count.{sumOver}

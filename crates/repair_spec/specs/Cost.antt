@@ -7,7 +7,7 @@ use lib.Ieee.{Float, binary64, add}
 use Rattle.sums.specs.Key.{key}
 use Rattle.graph_spec.specs.Graph.{Edge}
 use Rattle.graph_spec.specs.Ways.{Joins}
-use Rattle.drawing_spec.specs.Members.{In}
+use Rattle.lists.specs.Members.{In}
 use Rattle.repair_spec.specs.Distance.{infinity, zeroLength}
 
 -- a way from s, each edge taken in either direction, and its cost: the weights added from s on, each sum rounded

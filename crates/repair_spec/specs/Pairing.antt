@@ -7,6 +7,7 @@ use lib.Dec.{eqb, ltb}
 use lib.Ieee.{Float, binary64, add, lt}
 use Rattle.drawing_spec.specs.Drawing.{Point}
 use Rattle.graph_spec.specs.Chain.{squared}
+use Rattle.graph_spec.specs.Graph.{noPoint}
 use Rattle.repair_spec.specs.Distance.{zeroLength}
 
 -- a retrace goes from the first to the second
@@ -48,9 +49,6 @@ without v (u ∷ us) = elim (eqb u v) [ true ↦ us | false ↦ u ∷ without v 
 -- the last element takes the place of the one at i
 unfoldable pub swapRemove : List ℕ → ℕ → List ℕ
 swapRemove vs i = let n = length vs - 1 in take n (set vs i (getD vs n 0))
-
-abbrev pub noPoint : Point
-noPoint = record { x = 0; y = 0 }
 
 -- pairs until two nodes are left; k is at least the number of nodes
 unfoldable pub greedyPairs : ℕ → List Point → List ℕ → List Pair

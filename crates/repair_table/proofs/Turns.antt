@@ -8,10 +8,10 @@ use mathlib.Core.Bool.{true, false}
 use lib.ListN.{getD}
 use lib.Pow.{pow-mono, pow-pos, shl-exact}
 use lib.Ieee.{Float, nan, binary64, add, lt}
-use Rattle.drawing_spec.proofs.Members.{either}
+use Rattle.lists.proofs.Members.{either}
 use Rattle.repair_masks.proofs.Masks.{lowest-bit, lowest-below, bit-power}
 use Rattle.repair_masks.specs.Table.{Least, least, lesser, low, tries, tried}
-use Rattle.repair_masks.proofs.Table.{tries-step, tries-end}
+use Rattle.repair_masks.proofs.Table.{tries-step, tries-done}
 use Rattle.repair_table.specs.Tables.{costs, rowAt, Lowest}
 
 pub lowest-is : (n m : ℕ) → 0 < m → m < 2 ^ n → n ≤ 20 → Lowest n m (low m)
@@ -63,4 +63,4 @@ module _ (ws : List Float) (row others : ℕ) where
   tries-turn rest j q b r x p e g inv s = rw (s, g, e) (sym (tries-step (costs ws) (rowAt ws row) others rest b p) ∙ inv)
 
   pub tries-over : (k : ℕ) (b : Least) (x : Least) (rest : ℕ) → rest ≡ 0 → tries k (costs ws) (rowAt ws row) others rest b ≡ x → b ≡ x
-  tries-over k b x rest e inv = sym (tries-end k (costs ws) (rowAt ws row) others b) ∙ (rw e at inv)
+  tries-over k b x rest e inv = sym (tries-done k (costs ws) (rowAt ws row) others b) ∙ (rw e at inv)

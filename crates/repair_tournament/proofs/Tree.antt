@@ -2,32 +2,25 @@
 use mathlib.Core.Path.{_≡_, refl, sym, ap, subst, _∙_}
 use mathlib.Core.List.{List}
 use mathlib.Core.Bool.{Bool, true, false}
-use Prim.Native.Nat.{ℕ, zero, suc, _+_, _*_, _/_, _≤_, _<_}
+use Prim.Native.Nat.{ℕ, zero, suc, _+_, _*_, _-_, _/_, _%_, _≤_, _<_}
 use native.Mathlib.Nat.{le-refl, le-trans, le-of-lt, le-antisymm}
 use native.Mathlib.Decide.{decLe}
 use native.Mathlib.Omega.{arith}
 use lib.ListN.{length, set, replicate, length-set, length-replicate, getD-replicate}
 use lib.Seq.{getD-set-same, getD-set-other}
 use lib.Ieee.{Float, nan, binary64, lt}
-use borrow.Author.Tests.{ltb-true, ltb-false}
 use Rattle.limits.specs.Limits.{mostNodes}
 use Rattle.sums.specs.Key.{Nonneg, key}
-use Rattle.sums.proofs.KeyLaws.{lt-key, key-inj}
+use Rattle.sums.proofs.KeyLaws.{key-inj, lt-false, lt-true}
 use Rattle.sums.proofs.Sum.{inf-nonneg}
 use Rattle.repair_tournament.specs.Tree.{Stored, Tree, Won, at, infinity, lesser, pick, value}
 
 -- ---- order
 
 module _ (x y : Float) (p : Nonneg binary64 x) (q : Nonneg binary64 y) where
-  lt-true : lt x y ≡ true → key binary64 x < key binary64 y
-  lt-true h = ltb-true (key binary64 x) (key binary64 y) (sym (lt-key binary64 x y p q) ∙ h)
-
-  pub lt-false : lt x y ≡ false → key binary64 y ≤ key binary64 x
-  lt-false h = ltb-false (key binary64 x) (key binary64 y) (sym (lt-key binary64 x y p q) ∙ h)
-
   -- neither is less than the other
   pub equal : lt x y ≡ false → lt y x ≡ false → x ≡ y
-  equal h k = key-inj binary64 x y p q (le-antisymm (ltb-false (key binary64 y) (key binary64 x) (sym (lt-key binary64 y x q p) ∙ k)) (lt-false h))
+  equal h k = key-inj binary64 x y p q (le-antisymm (lt-false y x q p k) (lt-false x y p q h))
 
 module _ (x y : Float) (p : Nonneg binary64 x) (q : Nonneg binary64 y) where
   pub lesser-nonneg : Nonneg binary64 (lesser x y)
@@ -43,6 +36,31 @@ module _ (x y : Float) (p : Nonneg binary64 x) (q : Nonneg binary64 y) where
       go : (b : Bool) → lt y x ≡ b → (key binary64 (pick b y x) ≤ key binary64 x) × (key binary64 (pick b y x) ≤ key binary64 y)
       go true h = (le-of-lt (lt-true y x q p h), le-refl _)
       go false h = (le-refl _, lt-false y x q p h)
+
+  -- which of the two comes first makes no difference
+  lesser-swap : lesser x y ≡ lesser y x
+  lesser-swap = go (lt y x) refl (lt x y) refl
+    where
+      go : (b : Bool) → lt y x ≡ b → (c : Bool) → lt x y ≡ c → pick b y x ≡ pick c x y
+      go true h true k = absurd (omega (arith, lt-true y x q p h, lt-true x y p q k))
+      go true h false k = refl
+      go false h true k = refl
+      go false h false k = equal x y p q k h
+
+-- the lesser of what stands at i and of what stands beside it
+pub lesser-beside : (t : List Float) → ((k : ℕ) → k < 2 * mostNodes → Nonneg binary64 (at t k)) → (i : ℕ) → 1 < i → i < 2 * mostNodes → (w : Float) → at t i ≡ w
+    → lesser w (at t (2 * (i / 2) + (1 - i % 2))) ≡ lesser (at t (2 * (i / 2))) (at t (2 * (i / 2) + 1))
+lesser-beside t g i h l w is = elim (decLe i (2 * (i / 2))) [
+  | yes p ↦
+      let e : 2 * (i / 2) ≡ i = omega arith in
+      let o : 2 * (i / 2) + (1 - i % 2) ≡ 2 * (i / 2) + 1 = omega arith in
+      ap (λ (k : ℕ). lesser w (at t k)) o ∙ ap (λ (x : Float). lesser x (at t (2 * (i / 2) + 1))) (sym is ∙ sym (ap (at t) e))
+  | no p ↦
+      let e : 2 * (i / 2) + 1 ≡ i = omega arith in
+      let o : 2 * (i / 2) + (1 - i % 2) ≡ 2 * (i / 2) = omega arith in
+      ap (λ (k : ℕ). lesser w (at t k)) o ∙ ap (λ (x : Float). lesser x (at t (2 * (i / 2)))) (sym is ∙ sym (ap (at t) e))
+      ∙ lesser-swap (at t (2 * (i / 2) + 1)) (at t (2 * (i / 2))) (g (2 * (i / 2) + 1) (omega arith)) (g (2 * (i / 2)) (omega arith))
+]
 
 pub lesser-second : (x y : Float) → lt y x ≡ true → lesser x y ≡ y
 lesser-second x y h = ap (λ (b : Bool). pick b y x) h
@@ -142,6 +160,10 @@ module _ (n v : ℕ) (x : Float) (t : List Float) (few : n ≤ mostNodes) (isVal
           new = getD-set-other t' i (n + v) m nan (omega arith) ∙ S .new;
           others = λ w h. getD-set-other t' i (n + w) m nan (omega arith) ∙ S .others w h;
         }
+
+    -- what was won then stands at its place
+    pub storing-won : (m : Float) → at (set t' i m) i ≡ m
+    storing-won m = getD-set-same t' i m nan (omega (arith, S .long, S .below))
 
     pub storing-end : i ≡ 0 → Stored n v x t t'
     storing-end e = record {

@@ -33,21 +33,23 @@ fn differ(x: f64, y: f64) -> bool
     y < x
 }
 
-// Stores x as the value v.
+// Stores x as the value v. `won` is what stands at i, so that only the other of each two has to be read on the way up.
 pub fn store(tree: &mut [f64; 2 * MOST_NODES], n: usize, v: usize, x: f64)
     requires { ⌜ (n ≤ mostNodes) × (v < n) × Tree n (now tree) × Nonneg binary64 x ⌝ }
     ensures { λ _. ⌜ Stored n v x (now (tree .entry)) (now (tree .exit)) ⌝ }
 {
-    let place = n + v;
-    tree[place] = x;
-    let mut i = place / 2;
-    while 0 < i {
-        let winner = lesser(tree[2 * i], tree[2 * i + 1]);
-        if !differ(tree[i], winner) {
+    let mut i = n + v;
+    let mut won = x;
+    tree[i] = won;
+    while 1 < i {
+        let above = i / 2;
+        let other = 2 * above + (1 - i % 2);
+        won = lesser(won, tree[other]);
+        if !differ(tree[above], won) {
             return;
         }
-        tree[i] = winner;
-        i = i / 2;
+        tree[above] = won;
+        i = above;
     }
 }
 
@@ -64,4 +66,15 @@ pub fn least(tree: &[f64; 2 * MOST_NODES], n: usize) -> usize
         }
     }
     i - n
+}
+
+// Which value is the least, where v is tried first: in a search the node that was reached last often is the nearest.
+pub fn least_at(tree: &[f64; 2 * MOST_NODES], n: usize, v: usize) -> usize
+    requires { ⌜ (v < n) × (n ≤ mostNodes) × Tree n (now tree) ⌝ }
+    ensures { λ r. ⌜ (r < n) × (value n (now (tree .entry)) r ≡ at (now (tree .entry)) 1) ⌝ }
+{
+    if differ(tree[n + v], tree[1]) {
+        return least(tree, n);
+    }
+    v
 }

@@ -17,7 +17,7 @@ use Rattle.graph_adjacency.specs.Lists.{Adjacency, nextArc, edgeNumber, arcAt}
 use Rattle.graph_arrays.specs.Arrays.{edgesIn, EdgesLinked}
 use Rattle.repair_spec.specs.Distance.{infinity, distanceAt}
 use Rattle.repair_spec.specs.Retrace.{Step, to, none, Path, found, error, onWayBack, member, stepBack, wayBack}
-use Rattle.repair_search.proofs.OfferLaws.{getD-inside}
+use Rattle.lists.proofs.Elements.{getD-inside}
 use Rattle.repair_search.proofs.Along.{From, Known, from-here, from-next, from-end}
 use Rattle.repair_way_back.specs.Back.{fitting}
 

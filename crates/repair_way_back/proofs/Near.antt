@@ -9,11 +9,7 @@ use lib.Ieee.{Float, nan, inf, fin, binary64, round, neg, lt, ofBits, up, down}
 use borrow.Author.Tests.{ltb-true, ltb-false}
 use Rattle.repair_spec.specs.Retrace.{magnitude, tolerance}
 
--- the code's 0.0 and 1e-10
-pub zero-bits : ofBits binary64 0 ≡ fin false 0 (pos 0)
-unfolding ofBits
-zero-bits = refl
-
+-- the code's 1e-10
 pub tolerance-bits : ofBits binary64 4457293557087583675 ≡ tolerance
 unfolding ofBits round
 tolerance-bits = refl

@@ -7,9 +7,9 @@ use native.Mathlib.Decide.{decLe}
 use native.Mathlib.Omega.{arith}
 use lib.IntN.{ℤ, pos, negsuc}
 use lib.Dec.{T, ltb, eqb, leb, eqb→eq, ltb→lt, leb→le, lit<}
-use borrow.Author.Tests.{lt-ltb, le-ltb}
+use borrow.Author.Tests.{lt-ltb, le-ltb, ltb-true, ltb-false}
 use lib.Pow.{pow-pos, pow-add, pow-lt}
-use lib.Ieee.{Float, nan, inf, fin, Format, prec, emax, low, up, down, size, fits, isNan, lt, toBits, ofBits}
+use lib.Ieee.{Float, nan, inf, fin, Format, binary64, prec, emax, low, up, down, size, fits, isNan, lt, toBits, ofBits}
 use lib.Ieee.Fits.{up-pos, down-pos, and-l, and-r, two}
 use lib.Ieee.Bits.{ofBits-toBits}
 use lib.Ieee.Exact.{HasValue}
@@ -160,3 +160,10 @@ module _ (f : Format) where
   value-finite nan a c v = absurd v
   value-finite (inf s) a c v = absurd v
   value-finite (fin s m e) a c v = tt
+
+-- what a comparison of two lengths tells
+pub lt-true : (x y : Float) → Nonneg binary64 x → Nonneg binary64 y → lt x y ≡ true → key binary64 x < key binary64 y
+lt-true x y p q h = ltb-true (key binary64 x) (key binary64 y) (sym (lt-key binary64 x y p q) ∙ h)
+
+pub lt-false : (x y : Float) → Nonneg binary64 x → Nonneg binary64 y → lt x y ≡ false → key binary64 y ≤ key binary64 x
+lt-false x y p q h = ltb-false (key binary64 x) (key binary64 y) (sym (lt-key binary64 x y p q) ∙ h)

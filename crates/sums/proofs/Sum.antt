@@ -1,10 +1,10 @@
 -- Rounded sums of floats that are not negative, in keys: the key of a sum is the sum of the keys, rounded. So a sum grows with each argument and is never below either,
 -- whatever the rounding loses, and infinity is what sums reach where they overflow.
-use mathlib.Core.Path.{_≡_, refl, sym, ap, _∙_}
+use mathlib.Core.Path.{_≡_, refl, sym, ap}
 use mathlib.Core.Bool.{Bool, true, false, _&&_, _||_, cond}
 use mathlib.Core.Logic.{_⊎_, inl, inr}
 use Prim.Native.Nat.{ℕ, zero, suc, _+_, _*_, _^_, _≤_}
-use native.Mathlib.Nat.{le-refl, le-trans, le-of-eq, le-of-lt, le-antisymm, mul-pos, mul-le-mul-right, add-comm, zero-add as nat-zero-add, eq-of-mul-eq-mul-right}
+use native.Mathlib.Nat.{le-refl, le-trans, le-of-eq, le-of-lt, le-antisymm, mul-pos, mul-le-mul-right, eq-of-mul-eq-mul-right}
 use native.Mathlib.Omega.{arith}
 use lib.IntN.{pos}
 use lib.Dec.{T, ltb, eqb, ltb→lt, eqb→eq}
@@ -15,7 +15,7 @@ use lib.Ieee.Exact.{HasValue, round-exact}
 use lib.Ieee.Order.{round-mono}
 use lib.Ieee.Scale.{overflow, round-same}
 use Rattle.sums.specs.Key.{Nonneg, nonneg, key}
-use Rattle.sums.proofs.KeyLaws.{any-two, key-exact, key-finite, key-top, key-digits, key-inj, key-value, cross→units}
+use Rattle.sums.proofs.KeyLaws.{any-two, key-exact, key-finite, key-top, key-digits, key-value, cross→units}
 
 -- u units, rounded
 abbrev pub rounded : Format → ℕ → Float
@@ -107,24 +107,13 @@ module _ (f : Format) where
       (mul-pos (down-pos e) (down-pos d)) (pow-pos (low f))
       (sum-units (m * up e) (down e) (n * up d) (down d) (key f (fin false m e)) (key f (fin false n d)) (2 ^ low f) (key-exact f false m e h) (key-exact f false n d k))))
 
-  pub add-commutes : (x y : Float) → Nonneg f x → Nonneg f y → add f x y ≡ add f y x
-  add-commutes x y p q =
-      key-inj f (add f x y) (add f y x) (add-nonneg x y p q) (add-nonneg y x q p)
-      (add-key x y p q ∙ ap (λ (u : ℕ). key f (rounded f u)) (add-comm (key f x) (key f y)) ∙ sym (add-key y x q p))
-
-  -- a sum grows with its left argument, and with its right one
+  -- a sum grows with its left argument
   pub add-mono : (x y w : Float) → Nonneg f x → Nonneg f y → Nonneg f w → key f x ≤ key f y → key f (add f x w) ≤ key f (add f y w)
   add-mono x y w p q r h = rw (add-key x w p r, add-key y w q r) (round-key (key f x + key f w) (key f y + key f w) (omega arith))
 
-  pub add-mono-right : (w x y : Float) → Nonneg f w → Nonneg f x → Nonneg f y → key f x ≤ key f y → key f (add f w x) ≤ key f (add f w y)
-  add-mono-right w x y r p q h = rw (add-key w x r p, add-key w y r q) (round-key (key f w + key f x) (key f w + key f y) (omega arith))
-
-  -- and is never below its left argument, nor below its right one
+  -- and is never below it
   pub add-above : (x y : Float) → Nonneg f x → Nonneg f y → key f x ≤ key f (add f x y)
   add-above x y p q = rw (add-key x y p q) (le-trans (le-of-eq (sym (round-own x p))) (round-key (key f x) (key f x + key f y) (omega arith)))
-
-  pub add-above-right : (x y : Float) → Nonneg f x → Nonneg f y → key f y ≤ key f (add f x y)
-  add-above-right x y p q = rw (add-key x y p q) (le-trans (le-of-eq (sym (round-own y q))) (round-key (key f y) (key f x + key f y) (omega arith)))
 
 -- ---- the two ends: 0.0, from which sums start, and infinity
 abbrev pub plusZero : Float
@@ -147,27 +136,3 @@ pub zero-bits : (f : Format) → ofBits f 0 ≡ plusZero
 unfolding ofBits
 zero-bits binary32 = refl
 zero-bits binary64 = refl
-
-pub inf-bits : ofBits binary64 0x7ff0_0000_0000_0000 ≡ inf false
-unfolding ofBits
-inf-bits = refl
-
--- sums start from 0.0
-pub zero-add : (f : Format) (x : Float) → Nonneg f x → add f plusZero x ≡ x
-zero-add f x p =
-    key-inj f (add f plusZero x) x (add-nonneg f plusZero x (zero-nonneg f) p) p
-    (add-key f plusZero x (zero-nonneg f) p ∙ rw (zero-key, nat-zero-add) (round-own f x p))
-
-pub inf-add : (f : Format) (x : Float) → Nonneg f x → add f (inf false) x ≡ inf false
-unfolding add
-inf-add f nan p = absurd (p .sign)
-inf-add f (inf true) p = absurd (p .sign)
-inf-add f (inf false) p = refl
-inf-add f (fin s m e) p = refl
-
-pub add-inf : (f : Format) (x : Float) → Nonneg f x → add f x (inf false) ≡ inf false
-add-inf f x p = add-commutes f x (inf false) p (inf-nonneg f) ∙ inf-add f x p
-
--- what a sum reaches where its exact value is 2 ^ (emax + 1) or more
-pub add-overflow : (f : Format) (x y : Float) → Nonneg f x → Nonneg f y → overflow f ≤ key f x + key f y → add f x y ≡ inf false
-add-overflow f x y p q h = key-inj f (add f x y) (inf false) (add-nonneg f x y p q) (inf-nonneg f) (add-key f x y p q ∙ round-overflow f (key f x + key f y) h)

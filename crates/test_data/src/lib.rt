@@ -39,21 +39,59 @@ pub fn byte(data: &[u8], at: usize, by: usize) -> u8 {
     0
 }
 
-fn wide(byte: u8) -> u64
-    ensures { λ r. ⌜ r < 256 ⌝ }
-{
-    byte as u64
+// The value of a hex digit, and 0 of any other byte.
+fn digit(c: u8) -> u64 {
+    if c < b'0' {
+        return 0;
+    }
+    if c <= b'9' {
+        return (c - b'0') as u64;
+    }
+    if c < b'a' {
+        return 0;
+    }
+    if c <= b'f' {
+        return (c - b'a') as u64 + 10;
+    }
+    0
 }
 
-// The number in so many bytes at a place, lowest byte first.
-pub fn number(data: &[u8], at: usize, count: usize) -> u64 {
+// A number's part that is the next to join, where so many are left after it: a hex digit, the first one first, or a byte,
+// the last one first.
+fn part(data: &[u8], at: usize, count: usize, left: usize, text: bool) -> u64
+    requires { ⌜ left < count ⌝ }
+{
+    if text {
+        return digit(byte(data, at, count - 1 - left));
+    }
+    byte(data, at, left) as u64
+}
+
+fn joined(value: u64, next: u64, text: bool) -> u64 {
+    if text {
+        return value % 0x1000_0000_0000_0000 * 16 + next % 16;
+    }
+    value % 0x100_0000_0000_0000 * 256 + next % 256
+}
+
+fn read(data: &[u8], at: usize, count: usize, text: bool) -> u64 {
     let mut value: u64 = 0;
     let mut left = count;
     while left > 0 {
         left -= 1;
-        value = value % 72_057_594_037_927_936 * 256 + wide(byte(data, at, left));
+        value = joined(value, part(data, at, count, left, text), text);
     }
     value
+}
+
+// The number in so many bytes at a place, lowest byte first.
+pub fn number(data: &[u8], at: usize, count: usize) -> u64 {
+    read(data, at, count, false)
+}
+
+// The number that so many hex digits say at a place.
+pub fn hex(data: &[u8], at: usize, count: usize) -> u64 {
+    read(data, at, count, true)
 }
 
 // Prints how many cases there were, and how many came out otherwise.

@@ -1,13 +1,13 @@
 -- The walk from the start that lies best, in flat arrays, is document 01's.
 use mathlib.Core.Path.{_≡_, refl, sym, ap, _∙_}
 use mathlib.Core.List.{List, [], _∷_, map}
-use Prim.Native.Nat.{ℕ, _%_, _≤_, _<_}
+use Prim.Native.Nat.{ℕ, _≤_, _<_}
 use native.Mathlib.Nat.{zero-add}
 use native.Mathlib.Omega.{arith}
 use lib.ListN.{length, getD, take}
 use Rattle.limits.specs.Limits.{mostNodes, lineRoom}
 use Rattle.drawing_spec.specs.Drawing.{Point, Settings}
-use Rattle.drawing_spec.proofs.Members.{in-all}
+use Rattle.lists.proofs.Members.{in-all}
 use Rattle.graph_spec.specs.Graph.{Edge, pointAt}
 use Rattle.graph_spec.specs.Odd.{oddNodes}
 use Rattle.graph_spec.specs.Ways.{Inside}
@@ -18,8 +18,9 @@ use Rattle.walk_spec.specs.Line.{euler, hierholzer, lineOf}
 use Rattle.walk_spec.specs.Orient.{orient}
 use Rattle.walk_spec.proofs.Start.{withEdges-within}
 use Rattle.graph_arrays.specs.Arrays.{Front, nodesIn}
-use Rattle.graph_arrays.specs.NodeList.{NodeList, pointsAlong}
-use Rattle.graph_arrays.proofs.NodeList.{front-at, front-nodes, nodes-count}
+use Rattle.graph_arrays.specs.NodeList.{NodeList}
+use Rattle.graph_arrays.proofs.Arrays.{front-at}
+use Rattle.graph_arrays.proofs.NodeList.{front-list, nodes-count}
 use Rattle.graph_odd.proofs.Listed.{odd-few}
 use Rattle.walk_start.proofs.Listed.{with-few}
 use Rattle.walk_euler.specs.Euler.{closedLine, openLine}
@@ -52,14 +53,14 @@ none-listed n line = record { fits = omega arith; long = omega arith; nodes-in =
 
 module _ (n : ℕ) (es : List Edge) (few : n ≤ mostNodes) (odd : List ℕ) (r : ℕ) (f : Front (oddNodes n es) odd r) where
   pub odd-nodes : NodeList n mostNodes odd r
-  odd-nodes = front-nodes (oddNodes n es) odd r f n mostNodes (omega (arith, odd-few es n)) (in-all _ (oddNodes n es) (λ v i. oddNodes-member n es v .0 i .0))
+  odd-nodes = front-list (oddNodes n es) odd r f n mostNodes (omega (arith, odd-few es n)) (in-all _ (oddNodes n es) (λ v i. oddNodes-member n es v .0 i .0))
 
   -- one alone is never odd
   pub odd-two : Inside n es → (r ≡ 0 → ⊥) → 1 < r
   odd-two inside some = omega (arith, some, f .counts, handshake n es inside)
 
 pub with-nodes : (n : ℕ) (es : List Edge) (with : List ℕ) (count : ℕ) → n ≤ mostNodes → Front (withEdges es n 0) with count → NodeList n mostNodes with count
-with-nodes n es with count few f = front-nodes (withEdges es n 0) with count f n mostNodes (omega (arith, with-few es n)) (withEdges-within es n 0 n (zero-add n))
+with-nodes n es with count few f = front-list (withEdges es n 0) with count f n mostNodes (omega (arith, with-few es n)) (withEdges-within es n 0 n (zero-add n))
 
 -- ---- the two lines
 

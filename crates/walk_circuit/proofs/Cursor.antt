@@ -8,7 +8,7 @@ use native.Mathlib.Omega.{arith}
 use lib.ListN.{length, getD, set}
 use Rattle.limits.specs.Limits.{arcRoom}
 use Rattle.graph_spec.specs.Graph.{Edge, Arc, edgesAt}
-use Rattle.drawing_spec.specs.Members.{In}
+use Rattle.lists.specs.Members.{In}
 use Rattle.graph_spec.proofs.EdgesAt.{edgesAt-arc}
 use Rattle.graph_adjacency.specs.Lists.{Adjacency, nextArc, edgeNumber, arcAt}
 use Rattle.graph_adjacency.specs.Follow.{Follows}

@@ -11,13 +11,15 @@ use native.Mathlib.Omega.{arith}
 use lib.ListN.{length, getD, set, take, replicate, length-set, length-replicate}
 use lib.Seq.{getD-set-same, getD-set-other, getD-take, take-set-lt}
 use Rattle.limits.specs.Limits.{mostNodes, edgeRoom, lineRoom}
+use Rattle.lists.proofs.Elements.{getD-inside}
 use Rattle.graph_spec.specs.Graph.{Edge, edgesAt}
 use Rattle.graph_spec.specs.Ways.{Joins, Inside}
 use Rattle.graph_spec.proofs.EdgesAt.{edgeAt, edgeAt-in}
 use Rattle.graph_adjacency.specs.Lists.{Adjacency, firstArc, edgeNumber}
 use Rattle.graph_adjacency.specs.Follow.{Follows}
 use Rattle.walk_spec.specs.Walk.{By, Entry, Next, spent, along, next, walk, circuit}
-use Rattle.walk_spec.proofs.Free.{allSum, freeSum, freeSum-use, freeSum-all}
+use Rattle.walk_spec.proofs.Free.{freeSum, freeSum-use, freeSum-all}
+use Rattle.walk_spec.proofs.Circuit.{count-edges}
 use Rattle.walk_spec.proofs.Next.{Leads, Fits, next-fits}
 use Rattle.walk_circuit.proofs.Cursor.{Cursor, ArcThere, stays-set, cursor-first, cursor-later, cursor-none, cursor-free, cursor-arc}
 use Rattle.walk_circuit.specs.Entries.{byOf, entryOf, entriesOf, entriesFrom}
@@ -95,15 +97,9 @@ pub record Within (n : ℕ) (nodes bys : List ℕ) (depth node place : ℕ) : Ty
   pub nodes-long : length nodes ≡ lineRoom
   pub bys-long : length bys ≡ lineRoom
 
--- within the list, what stands beyond its end does not matter
-getD-default : (l : List Bool) (i : ℕ) (c d : Bool) → i < length l → getD l i c ≡ getD l i d
-getD-default [] i c d h = absurd (not-suc-le-zero h)
-getD-default (b ∷ bs) zero c d h = refl
-getD-default (b ∷ bs) (suc i) c d h = getD-default bs i c d (omega (arith, h))
-
 -- what the code reads of a mark
 pub mark-is : (es : List Edge) (used : List Bool) (i : ℕ) → length used ≡ edgeRoom → length es ≤ edgeRoom → i < length es → getD used i false ≡ getD (marksOf es used) i true
-mark-is es used i l f h = getD-default used i false true (omega arith) ∙ sym (getD-take (length es) used i true h)
+mark-is es used i l f h = getD-inside used i false true (omega arith) ∙ sym (getD-take (length es) used i true h)
 
 leads-in : (n : ℕ) (es : List Edge) (marks : List Bool) (u i v : ℕ) → Inside n es → Leads es marks u i v → v < n
 leads-in n es marks u i v inside l = go (inside (edgeAt es i) (edgeAt-in es i (l .isEdge))) (l .joins)
@@ -237,11 +233,6 @@ take-replicate zero k h = refl
 take-replicate (suc n) zero h = absurd (not-suc-le-zero h)
 take-replicate (suc n) (suc k) h = ap (λ (l : List Bool). false ∷ l) (take-replicate n k (omega (arith, h)))
 
-all-unused : (es : List Edge) (i : ℕ) → allSum (λ (j : ℕ) (e : Edge). 1) i es ≡ length es
-unfolding allSum
-all-unused [] i = refl
-all-unused (e ∷ es) i = omega (arith, all-unused es (suc i))
-
 pub first-arcs-none : (heads : List ℕ) → FirstArcs heads 0 (replicate mostNodes 0)
 first-arcs-none heads = record { long = length-replicate {A = ℕ} mostNodes 0; are = λ v h. absurd (not-suc-le-zero h) }
 
@@ -266,7 +257,7 @@ start-stands n es g s arcs nodes bys few follow f ls ln lb =
     let none : marksOf es (replicate edgeRoom false) ≡ replicate (length es) false = take-replicate (length es) edgeRoom few in
     record {
       same = rw none;
-      each = rw none (omega (arith, freeSum-all (λ (j : ℕ) (e : Edge). 1) 0 es, all-unused es 0));
+      each = rw none (omega (arith, freeSum-all (λ (j : ℕ) (e : Edge). 1) 0 es, count-edges es 0));
       place-in = omega arith;
       node-in = ls;
       below-in = λ j l. absurd (not-suc-le-zero l);

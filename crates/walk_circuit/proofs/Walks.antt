@@ -1,12 +1,12 @@
 -- The laws of Standing for the edges that the arrays hold, in the words of the code.
-use mathlib.Core.Path.{_≡_, subst, sym, ap, _∙_}
+use mathlib.Core.Path.{_≡_, subst, sym, _∙_}
 use mathlib.Core.List.{List, _∷_}
 use mathlib.Core.Bool.{true, false}
 use Prim.Native.Nat.{ℕ, _+_, _-_, _*_, _≤_, _<_}
 use native.Mathlib.Omega.{arith}
-use lib.ListN.{length, getD, set, replicate, length-set, length-replicate}
-use Rattle.limits.specs.Limits.{mostNodes, edgeRoom, arcRoom, lineRoom}
-use Rattle.graph_spec.specs.Graph.{Edge, edgesAt}
+use lib.ListN.{length, getD, set, replicate, length-replicate}
+use Rattle.limits.specs.Limits.{edgeRoom, arcRoom, lineRoom}
+use Rattle.graph_spec.specs.Graph.{edgesAt}
 use Rattle.graph_adjacency.specs.Lists.{Adjacency, firstArc, nextArc, edgeNumber}
 use Rattle.graph_arrays.specs.Arrays.{EdgesLinked, edgesIn}
 use Rattle.graph_arrays.proofs.Arrays.{edges-count, follows-edges}

@@ -10,13 +10,13 @@ use native.Mathlib.Omega.{arith}
 use lib.ListN.{getD, take, drop}
 use borrow.Author.Tests.{eq-eqb, ne-eqb}
 use Rattle.limits.specs.Limits.{lineRoom}
-use Rattle.walk_spec.specs.Walk.{Entry}
+use Rattle.walk_spec.specs.Walk.{Entry, nodesOf}
 use Rattle.walk_spec.specs.VirtualStep.{isBy, cutAt}
 use Rattle.graph_arrays.specs.NodeList.{NodeList}
 use Rattle.walk_circuit.specs.Entries.{EntriesIn, byOf, entryOf, entriesOf, entriesFrom}
 use Rattle.walk_cut.specs.Copy.{placesOf, Copy}
 use Rattle.walk_cut.proofs.CopyLaws.{below-append, places-below, taken-nodes, copy-nodes}
-use Rattle.walk_cut.specs.Cut.{EnteredAt, cutLine, nodesOf}
+use Rattle.walk_cut.specs.Cut.{EnteredAt, cutLine}
 
 -- ---- the test
 

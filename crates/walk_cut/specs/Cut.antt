@@ -1,10 +1,10 @@
 -- Where the circuit is cut, and what the line is then.
 use mathlib.Core.Path.{_≡_}
-use mathlib.Core.List.{List, [], map}
-use Prim.Native.Nat.{ℕ, _-_, _≤_, _<_}
+use mathlib.Core.List.{List, []}
+use Prim.Native.Nat.{ℕ, _≤_, _<_}
 use lib.ListN.{getD}
 use Rattle.limits.specs.Limits.{lineRoom}
-use Rattle.walk_spec.specs.Walk.{Entry}
+use Rattle.walk_spec.specs.Walk.{nodesOf}
 use Rattle.walk_spec.specs.VirtualStep.{cutAt}
 use Rattle.walk_circuit.specs.Entries.{entriesFrom}
 
@@ -14,9 +14,6 @@ pub record EnteredAt (bys : List ℕ) (first b r : ℕ) : Type 0 where
   pub within : r ≤ lineRoom
   pub before : (j : ℕ) → first ≤ j → j < r → getD bys j 0 ≡ b → ⊥
   pub is : r < lineRoom → getD bys r 0 ≡ b
-
-abbrev pub nodesOf : List Entry → List ℕ
-nodesOf ts = map (λ (t : Entry). t .node) ts
 
 -- the line, as the definition has it
 abbrev pub cutLine : ℕ → ℕ → List ℕ → List ℕ → List ℕ

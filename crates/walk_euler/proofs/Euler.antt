@@ -1,7 +1,7 @@
 -- Laws of specs/Euler.
 use mathlib.Core.Path.{_≡_, sym, ap, _∙_}
 use mathlib.Core.List.{List, [], _∷_, _++_}
-use Prim.Native.Nat.{ℕ, suc, _+_, _-_, _<_}
+use Prim.Native.Nat.{ℕ, _+_, _-_, _<_}
 use native.Mathlib.Numerals.{add-one}
 use lib.ListN.{length, getD}
 use Rattle.limits.specs.Limits.{edgeRoom, lineRoom}
@@ -9,7 +9,7 @@ use Rattle.drawing_spec.specs.Drawing.{Point, Settings}
 use Rattle.graph_spec.specs.Graph.{Edge, edge}
 use Rattle.graph_spec.specs.Odd.{oddNodes}
 use Rattle.repair_spec.specs.Distance.{zeroLength}
-use Rattle.walk_spec.specs.Walk.{Entry, circuit}
+use Rattle.walk_spec.specs.Walk.{Entry, circuit, nodesOf}
 use Rattle.walk_spec.specs.VirtualStep.{cutAt}
 use Rattle.walk_spec.specs.Start.{best, withEdges}
 use Rattle.walk_spec.specs.Line.{euler}
@@ -18,7 +18,7 @@ use Rattle.graph_arrays.specs.Arrays.{EdgesLinked, edgesIn}
 use Rattle.graph_arrays.proofs.Arrays.{edges-count, pushed-edges, pushed-linked}
 use Rattle.walk_circuit.specs.Entries.{entriesFrom}
 use Rattle.walk_cut.specs.Copy.{nodesFrom}
-use Rattle.walk_cut.specs.Cut.{nodesOf, cutLine}
+use Rattle.walk_cut.specs.Cut.{cutLine}
 use Rattle.walk_cut.proofs.CutLaws.{entries-nodes}
 use Rattle.walk_euler.specs.Euler.{closedLine, openLine}
 

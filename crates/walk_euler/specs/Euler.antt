@@ -4,9 +4,8 @@ use Prim.Native.Nat.{ℕ}
 use lib.ListN.{length}
 use Rattle.graph_spec.specs.Graph.{Edge, edge}
 use Rattle.repair_spec.specs.Distance.{zeroLength}
-use Rattle.walk_spec.specs.Walk.{circuit}
+use Rattle.walk_spec.specs.Walk.{circuit, nodesOf}
 use Rattle.walk_spec.specs.VirtualStep.{cutAt}
-use Rattle.walk_cut.specs.Cut.{nodesOf}
 
 -- no node is odd
 abbrev pub closedLine : ℕ → List Edge → List ℕ

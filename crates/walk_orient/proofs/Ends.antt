@@ -6,7 +6,7 @@ use native.Mathlib.Omega.{arith}
 use lib.ListN.{length, getD, take}
 use Rattle.limits.specs.Limits.{lineRoom}
 use Rattle.drawing_spec.specs.Drawing as drawn
-use Rattle.drawing_spec.specs.Members.{All}
+use Rattle.lists.specs.Members.{All}
 use Rattle.graph_spec.specs.Graph.{pointAt}
 use Rattle.graph_spec.specs.Count.{lastFrom}
 use Rattle.walk_spec.specs.Orient as line

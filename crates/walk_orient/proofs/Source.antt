@@ -1,5 +1,5 @@
 -- The turn by the source's floats is the turn by whole numbers.
-use mathlib.Core.Path.{_≡_, refl, sym, ap, _∙_}
+use mathlib.Core.Path.{_≡_, refl, ap, _∙_}
 use mathlib.Core.List.{List, reverse}
 use mathlib.Core.Bool.{Bool, true, false}
 use Prim.Native.Nat.{_≤_}
@@ -7,15 +7,15 @@ use native.Mathlib.Omega.{arith}
 use lib.Ieee.{Float}
 use Rattle.limits.specs.Limits.{mostSide}
 use Rattle.grid.specs.Grid.{gridExponent}
-use Rattle.center.specs.Center.{Within}
 use Rattle.center.proofs.Source.{endDistance, betterFloat}
 use Rattle.center.proofs.Exact.{same-turn}
 use Rattle.drawing_spec.specs.Drawing.{Point, Settings, inside}
-use Rattle.drawing_spec.specs.Members.{All}
+use Rattle.lists.specs.Members.{All}
 use Rattle.drawing_spec.specs.OnGrid.{OnGrid}
 use Rattle.walk_spec.specs.Orient as line
 use Rattle.walk_spec.specs.Start as line-start
 use Rattle.walk_start.specs.Better.{liesBetter}
+use Rattle.walk_start.proofs.Source.{within-grid}
 use Rattle.walk_orient.proofs.Ends.{ends-keep}
 
 -- the distance that `orient_path` has of an end of the line
@@ -32,12 +32,9 @@ abbrev pub sourceOrient : Settings → List Point → List Point
 sourceOrient s points = turnedBy (λ (q p : Point). betterFloat (inside s) (endAt s q) (endAt s p)) points (line.endPoints points)
 
 module _ (s : Settings) (wide : s .width ≤ mostSide) (high : s .height ≤ mostSide) where
-  within : (p : Point) → OnGrid p → Within (s .width) (s .height) (p .x) (p .y)
-  within p g = record { wide = wide; high = high; across = g .0; along = g .1 }
-
   same-test : (p q : Point) → OnGrid p → OnGrid q → betterFloat (inside s) (endAt s p) (endAt s q) ≡ liesBetter s p q
   unfolding line-start.distance
-  same-test p q gp gq = same-turn gridExponent (omega arith) (inside s) (s .width) (s .height) (p .x) (p .y) (q .x) (q .y) (within p gp) (within q gq)
+  same-test p q gp gq = same-turn gridExponent (omega arith) (inside s) (s .width) (s .height) (p .x) (p .y) (q .x) (q .y) (within-grid s wide high p gp) (within-grid s wide high q gq)
 
   is-orient : (points : List Point) → turnedBy (liesBetter s) points (line.endPoints points) ≡ line.orient s points
   unfolding line.orient

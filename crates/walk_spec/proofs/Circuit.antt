@@ -1,28 +1,25 @@
 -- The circuit of an even connected graph: it comes back to its start, and has every edge once.
 use mathlib.Core.Path.{_≡_, refl, sym, ap, _∙_}
 use mathlib.Core.Logic.{inl, inr}
-use mathlib.Core.List.{List, [], _∷_, map}
+use mathlib.Core.List.{List, [], _∷_}
 use mathlib.Core.Bool.{true, false}
 use Prim.Native.Nat.{ℕ, suc, _+_, _*_, _%_, _≤_, _<_}
 use native.Mathlib.Nat.{zero-add, not-suc-le-zero}
 use native.Mathlib.Decide.{ℕ-discrete}
 use native.Mathlib.Omega.{arith}
 use lib.ListN.{length, replicate, getD-replicate}
-use Rattle.drawing_spec.proofs.Members.{all-in, all-map}
+use Rattle.lists.proofs.Members.{all-in, all-map}
 use Rattle.graph_spec.specs.Graph.{Edge}
 use Rattle.graph_spec.specs.Odd.{hit, degree}
 use Rattle.graph_spec.specs.Count.{sumOver, stepSum, lineSum, lastFrom, joint, joining}
 use Rattle.graph_spec.specs.Ways.{Joins, Reach, here, on}
-use Rattle.drawing_spec.specs.Members.{In}
+use Rattle.lists.specs.Members.{In}
 use Rattle.graph_spec.proofs.Sums.{hit-same, hit-other, joins-hit, joins-joint, degree-sum}
 use Rattle.graph_spec.proofs.EdgesAt.{edgeAt, edgeAt-in, number-of}
-use Rattle.walk_spec.specs.Walk.{start, Entry, circuit}
+use Rattle.walk_spec.specs.Walk.{start, Entry, circuit, nodesOf}
 use Rattle.walk_spec.proofs.Free.{Weight, allSum, freeSum, isFree, freeSum-use, freeSum-none, freeSum-all, allSum-ends}
 use Rattle.walk_spec.proofs.Next.{atNode}
 use Rattle.walk_spec.proofs.Trail.{byWeight, bySum, Trail, Done, Walking, Walked, run}
-
-abbrev pub nodesOf : List Entry → List ℕ
-nodesOf ts = map (λ (t : Entry). t .node) ts
 
 pub record Circuit (es : List Edge) (s : ℕ) (o : List Entry) : Type 0 where
   pub first : Entry
@@ -100,7 +97,7 @@ begin es s even = record {
   done = tt;
 }
 
-count-edges : (es : List Edge) (i : ℕ) → allSum (λ (k : ℕ) (e : Edge). 1) i es ≡ length es
+pub count-edges : (es : List Edge) (i : ℕ) → allSum (λ (k : ℕ) (e : Edge). 1) i es ≡ length es
 unfolding allSum
 count-edges [] i = refl
 count-edges (e ∷ es) i = omega (arith, count-edges es (suc i))

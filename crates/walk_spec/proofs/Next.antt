@@ -9,7 +9,7 @@ use lib.ListN.{length, getD}
 use Rattle.graph_spec.specs.Graph.{Edge, Arc, edgesAt}
 use Rattle.graph_spec.specs.Odd.{hit}
 use Rattle.graph_spec.specs.Ways.{Joins}
-use Rattle.drawing_spec.specs.Members.{In}
+use Rattle.lists.specs.Members.{In}
 use Rattle.graph_spec.proofs.Sums.{hit-other}
 use Rattle.graph_spec.proofs.EdgesAt.{edgeAt, edgesAt-arc, edgesAt-all}
 use Rattle.walk_spec.specs.Walk.{Next, spent, along, nextOf, next}

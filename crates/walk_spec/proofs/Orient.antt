@@ -7,10 +7,11 @@ use Prim.Native.Nat.{ℕ}
 use lib.ListN.{length, length-reverse}
 use Rattle.center.specs.Center.{better}
 use Rattle.drawing_spec.specs.Drawing.{Point, Settings, inside}
-use Rattle.drawing_spec.specs.Members.{All}
-use Rattle.drawing_spec.proofs.Members.{either}
+use Rattle.lists.specs.Members.{All}
+use Rattle.lists.proofs.Members.{either}
 use Rattle.graph_spec.specs.Count.{lineSum, lastFrom}
-use Rattle.graph_spec.proofs.Lines.{lineSum-reverse, Runs, runs-reverse, all-reverse}
+use Rattle.graph_spec.proofs.Lines.{lineSum-reverse, Runs, runs-reverse}
+use Rattle.lists.proofs.Members.{all-reverse}
 use Rattle.walk_spec.specs.Start.{distance}
 use Rattle.walk_spec.specs.Orient.{EndPoints, ends, empty, endPoints, orient}
 

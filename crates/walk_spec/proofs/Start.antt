@@ -6,8 +6,8 @@ use native.Mathlib.Omega.{arith}
 use lib.Dec.{ltb}
 use Rattle.center.specs.Center.{better}
 use Rattle.drawing_spec.specs.Drawing.{Point, Settings, inside}
-use Rattle.drawing_spec.specs.Members.{All}
-use Rattle.drawing_spec.proofs.Members.{either}
+use Rattle.lists.specs.Members.{All}
+use Rattle.lists.proofs.Members.{either}
 use Rattle.graph_spec.specs.Graph.{Edge, pointAt}
 use Rattle.graph_spec.specs.Odd.{degree}
 use Rattle.walk_spec.specs.Start.{distance, bestOf, best, withEdges}

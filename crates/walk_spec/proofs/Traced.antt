@@ -10,20 +10,20 @@ use native.Mathlib.Omega.{arith}
 use lib.ListN.{length}
 use lib.Ieee.{Float}
 use Rattle.drawing_spec.specs.Drawing.{Point, Settings}
-use Rattle.drawing_spec.proofs.Members.{in-left, in-append}
+use Rattle.lists.proofs.Members.{in-left, in-append}
 use Rattle.graph_spec.specs.Graph.{Edge, edge}
 use Rattle.graph_spec.specs.Odd.{hit, degree, oddNodes}
 use Rattle.graph_spec.specs.Count.{lineSum, lastFrom, joint, joining}
 use Rattle.graph_spec.specs.Ways.{Inside, Joins, Reach}
-use Rattle.drawing_spec.specs.Members.{In, All}
+use Rattle.lists.specs.Members.{In, All}
 use Rattle.graph_spec.proofs.Sums.{hit-same, hit-other, degree-append}
 use Rattle.graph_spec.proofs.Odd.{oddNodes-member, oddNodes-ascends, even-else}
 use Rattle.graph_spec.proofs.Connected.{reach-trans, reach-sym, joined-more, reach-more}
 use Rattle.repair_spec.specs.Distance.{zeroLength}
-use Rattle.walk_spec.specs.Walk.{Entry, circuit}
+use Rattle.walk_spec.specs.Walk.{Entry, circuit, nodesOf}
 use Rattle.walk_spec.specs.Start.{best, withEdges}
 use Rattle.walk_spec.specs.Line.{euler, hierholzer}
-use Rattle.walk_spec.proofs.Circuit.{nodesOf, Circuit, circuit-is, circuit-steps, circuit-count, trail-last}
+use Rattle.walk_spec.proofs.Circuit.{Circuit, circuit-is, circuit-steps, circuit-count, trail-last}
 use Rattle.walk_spec.proofs.VirtualStep.{CutLine, cut-line, trail-within}
 use Rattle.walk_spec.proofs.Start.{best-keeps, withEdges-within}
 

@@ -8,20 +8,20 @@ use native.Mathlib.Omega.{arith}
 use lib.ListN.{length, drop, length-append}
 use lib.Seq.{getD-append-seam}
 use borrow.Author.Tests.{eqb-true}
-use Rattle.drawing_spec.proofs.Members.{all-append, all-front, all-back}
+use Rattle.lists.proofs.Members.{all-append, all-front, all-back}
 use Rattle.graph_spec.specs.Graph.{Edge}
 use Rattle.graph_spec.specs.Odd.{one}
 use Rattle.graph_spec.specs.Count.{sumOver, stepSum, lineSum, lastFrom, joint, joining}
 use Rattle.graph_spec.specs.Ways.{Inside, Joins}
-use Rattle.drawing_spec.specs.Members.{All}
+use Rattle.lists.specs.Members.{All}
 use Rattle.graph_spec.proofs.Sums.{hit-same, joins-joint, sumOver-append}
 use Rattle.graph_spec.proofs.Connected.{joins-inside}
 use Rattle.graph_spec.proofs.Lines.{stepSum-append, lastFrom-append}
 use Rattle.graph_spec.proofs.EdgesAt.{edgeAt, edgeAt-in}
-use Rattle.walk_spec.specs.Walk.{By, start, Entry}
+use Rattle.walk_spec.specs.Walk.{By, start, Entry, nodesOf}
 use Rattle.walk_spec.specs.VirtualStep.{isBy, cutAt}
 use Rattle.walk_spec.proofs.Trail.{byWeight, bySum, Entered, Trail}
-use Rattle.walk_spec.proofs.Circuit.{nodesOf, Circuit, isNumber, allSum-ge, rest-sum, rest-count, trail-last}
+use Rattle.walk_spec.proofs.Circuit.{Circuit, isNumber, allSum-ge, rest-sum, rest-count, trail-last}
 
 -- ---- lines of nodes
 

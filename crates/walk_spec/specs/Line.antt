@@ -6,7 +6,7 @@ use Rattle.drawing_spec.specs.Drawing.{Point, Settings}
 use Rattle.graph_spec.specs.Graph.{Edge, edge, pointAt}
 use Rattle.graph_spec.specs.Odd.{oddNodes, oddFrom}
 use Rattle.repair_spec.specs.Distance.{zeroLength}
-use Rattle.walk_spec.specs.Walk.{Entry, circuit}
+use Rattle.walk_spec.specs.Walk.{nodesOf, circuit}
 use Rattle.walk_spec.specs.Start.{best, withEdges}
 use Rattle.walk_spec.specs.VirtualStep.{cutAt}
 use Rattle.walk_spec.specs.Orient.{orient}
@@ -16,11 +16,11 @@ unfoldable pub euler : Settings → List Point → List Edge → List ℕ
 unfolding best withEdges circuit cutAt oddFrom
 euler s ns es =
     elim (oddNodes (length ns) es) [
-      | [] ↦ map (λ (t : Entry). t .node) (circuit es (best s ns (withEdges es (length ns) 0)))
+      | [] ↦ nodesOf (circuit es (best s ns (withEdges es (length ns) 0)))
       | u ∷ us ↦
           let odd : List ℕ = u ∷ us in
           let v = getD odd 1 0 in
-          map (λ (t : Entry). t .node) (cutAt (length es) [] (circuit (es ++ (edge u v zeroLength ∷ [])) (best s ns odd)))
+          nodesOf (cutAt (length es) [] (circuit (es ++ (edge u v zeroLength ∷ [])) (best s ns odd)))
     ]
 
 unfoldable pub hierholzer : Settings → List Point → List Edge → List ℕ

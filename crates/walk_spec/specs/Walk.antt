@@ -1,6 +1,6 @@
 -- Hierholzer's walk of 1873: go on along edges not yet used; where none is left at the node in hand, it is taken off and the walk goes on from the one before it.
 use Prim.Native.Nat.{ℕ, zero, suc, _+_, _*_}
-use mathlib.Core.List.{List, [], _∷_}
+use mathlib.Core.List.{List, [], _∷_, map}
 use mathlib.Core.Bool.{Bool, true, false}
 use lib.ListN.{length, getD, set, replicate}
 use Rattle.graph_spec.specs.Graph.{Edge, Arc, edgesAt}
@@ -13,6 +13,9 @@ pub data By : Type 0 where
 pub record Entry : Type 0 where
   pub node : ℕ
   pub by : By
+
+abbrev pub nodesOf : List Entry → List ℕ
+nodesOf ts = map (λ (t : Entry). t .node) ts
 
 -- the first of a node's edges that is not used
 pub data Next : Type 0 where

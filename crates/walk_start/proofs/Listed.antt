@@ -3,13 +3,12 @@ use mathlib.Core.Path.{_≡_, refl, sym, ap, _∙_}
 use mathlib.Core.Logic.{inl, inr}
 use mathlib.Core.List.{List, [], _∷_}
 use mathlib.Core.Bool.{Bool, true, false}
-use Prim.Native.Nat.{ℕ, zero, suc, _+_, _-_, _≤_, _<_}
-use native.Mathlib.Numerals.{add-one}
+use Prim.Native.Nat.{ℕ, zero, suc, _+_, _≤_, _<_}
 use native.Mathlib.Omega.{arith}
 use lib.ListN.{length}
 use lib.Dec.{eqb, ltb}
 use borrow.Author.Tests.{lt-ltb, le-ltb, eqb-true}
-use Rattle.drawing_spec.specs.Members.{In}
+use Rattle.lists.specs.Members.{In}
 use Rattle.graph_spec.specs.Graph.{Edge, Arc, edgesAt}
 use Rattle.graph_spec.specs.Odd.{one, hit, degree}
 use Rattle.graph_spec.specs.Ways.{Joins}
@@ -20,7 +19,20 @@ use Rattle.graph_adjacency.specs.Follow.{Follows}
 use Rattle.graph_adjacency.proofs.Follow.{follows-none, follows-arc}
 use Rattle.graph_arrays.specs.Arrays.{EdgesLinked, edgesIn}
 use Rattle.graph_arrays.proofs.Arrays.{follows-edges}
+use Rattle.graph_arrays.proofs.Listing.{Chosen, chosen-few}
 use Rattle.walk_spec.specs.Start.{withEdges}
+
+-- ---- they are those of all nodes that pass a test
+
+abbrev pub edgesMeet : List Edge → ℕ → Bool
+edgesMeet es v = ltb 0 (degree es v)
+
+pub with-chosen : (es : List Edge) → Chosen (withEdges es) (edgesMeet es)
+unfolding withEdges
+with-chosen es = record { nil = λ v. refl; step = λ k v. refl }
+
+pub with-few : (es : List Edge) (n : ℕ) → length (withEdges es n 0) ≤ n
+with-few es n = chosen-few (withEdges es) (edgesMeet es) (with-chosen es) n
 
 -- ---- a node has an edge where its list has a first arc
 
@@ -76,54 +88,16 @@ module _ (n m : ℕ) (a : Adjacency) (L : EdgesLinked n m a) (v : ℕ) (hv : v <
           let b = edgesAt-arc (edgesIn m a) v r (w r (inl refl)) in
           absurd (omega (arith, h, degree-some (edgesIn m a) (edgeAt (edgesIn m a) (r .number)) v (r .to) (edgeAt-in (edgesIn m a) (r .number) (b .isEdge)) (b .joins)))
 
-  pub arc-some : (firstArc (a .heads) v ≡ 0 → ⊥) → 0 < degree (edgesIn m a) v
+  pub arc-some : (firstArc (a .heads) v ≡ 0 → ⊥) → edgesMeet (edgesIn m a) v ≡ true
   arc-some d = go (degree (edgesIn m a) v) refl
     where
-      go : (k : ℕ) → degree (edgesIn m a) v ≡ k → 0 < k
+      go : (k : ℕ) → degree (edgesIn m a) v ≡ k → ltb 0 k ≡ true
       go zero e = absurd (d (no-arc e))
-      go (suc k) e = omega arith
+      go (suc k) e = lt-ltb 0 (suc k) (omega arith)
 
-  pub arc-none : firstArc (a .heads) v ≡ 0 → degree (edgesIn m a) v ≡ 0
+  pub arc-none : firstArc (a .heads) v ≡ 0 → edgesMeet (edgesIn m a) v ≡ false
   arc-none z = go (degree (edgesIn m a) v) refl
     where
-      go : (k : ℕ) → degree (edgesIn m a) v ≡ k → k ≡ 0
-      go zero e = refl
+      go : (k : ℕ) → degree (edgesIn m a) v ≡ k → ltb 0 k ≡ false
+      go zero e = le-ltb 0 0 (omega arith)
       go (suc k) e = absurd (omega (arith, z, has-arc (omega (arith, e))))
-
--- ---- the list
-
-module _ (es : List Edge) where
-  with-some : (k v : ℕ) → 0 < degree es v → withEdges es (suc k) v ≡ v ∷ withEdges es k (suc v)
-  unfolding withEdges
-  with-some k v h = ap (λ (t : Bool). elim t [ true ↦ v ∷ withEdges es k (suc v) | false ↦ withEdges es k (suc v) ]) (lt-ltb 0 (degree es v) h)
-
-  with-none : (k v : ℕ) → degree es v ≡ 0 → withEdges es (suc k) v ≡ withEdges es k (suc v)
-  unfolding withEdges
-  with-none k v h = ap (λ (t : Bool). elim t [ true ↦ v ∷ withEdges es k (suc v) | false ↦ withEdges es k (suc v) ]) (le-ltb 0 (degree es v) (omega (arith, h)))
-
-  pub with-nil : (v : ℕ) → withEdges es 0 v ≡ []
-  unfolding withEdges
-  with-nil v = refl
-
-  with-from-few : (k v : ℕ) → length (withEdges es k v) ≤ k
-  unfolding withEdges
-  with-from-few zero v = omega arith
-  with-from-few (suc k) v = go (ltb 0 (degree es v)) (with-from-few k (suc v))
-    where
-      go : (t : Bool) → length (withEdges es k (suc v)) ≤ k → length {A = ℕ} (elim t [ true ↦ v ∷ withEdges es k (suc v) | false ↦ withEdges es k (suc v) ]) ≤ suc k
-      go true h = omega arith
-      go false h = omega arith
-
-  -- no node is listed twice
-  pub with-few : (n : ℕ) → length (withEdges es n 0) ≤ n
-  with-few n = with-from-few n 0
-
-  module _ (n v : ℕ) (h : v < n) where
-    one-less : n - v ≡ suc (n - (v + 1))
-    one-less = omega arith
-
-    pub left-some : 0 < degree es v → withEdges es (n - v) v ≡ v ∷ withEdges es (n - (v + 1)) (v + 1)
-    left-some o = ap (λ (k : ℕ). withEdges es k v) one-less ∙ with-some (n - (v + 1)) v o ∙ ap (λ (u : ℕ). v ∷ withEdges es (n - (v + 1)) u) (sym (add-one v))
-
-    pub left-none : degree es v ≡ 0 → withEdges es (n - v) v ≡ withEdges es (n - (v + 1)) (v + 1)
-    left-none o = ap (λ (k : ℕ). withEdges es k v) one-less ∙ with-none (n - (v + 1)) v o ∙ ap (λ (u : ℕ). withEdges es (n - (v + 1)) u) (sym (add-one v))

@@ -1,5 +1,5 @@
 -- The start by the source's floats is the start by whole numbers.
-use mathlib.Core.Path.{_≡_, refl, sym, ap, _∙_}
+use mathlib.Core.Path.{_≡_, refl, ap, _∙_}
 use mathlib.Core.List.{List, [], _∷_}
 use mathlib.Core.Bool.{Bool, true, false}
 use Prim.Native.Nat.{ℕ, _≤_}
@@ -11,7 +11,7 @@ use Rattle.center.specs.Center.{Within}
 use Rattle.center.proofs.Source.{nodeDistance, betterFloat, worst}
 use Rattle.center.proofs.Exact.{same-start, first-taken}
 use Rattle.drawing_spec.specs.Drawing.{Point, Settings, inside}
-use Rattle.drawing_spec.specs.Members.{All}
+use Rattle.lists.specs.Members.{All}
 use Rattle.drawing_spec.specs.OnGrid.{OnGrid}
 use Rattle.graph_spec.specs.Graph.{pointAt}
 use Rattle.walk_spec.specs.Start.{distance, bestOf, best}
@@ -31,13 +31,13 @@ sourceOf s ns v d (u ∷ us) =
 abbrev pub sourceStart : Settings → List Point → List ℕ → ℕ
 sourceStart s ns vs = sourceOf s ns 0 (worst (inside s)) vs
 
-module _ (s : Settings) (ns : List Point) (wide : s .width ≤ mostSide) (high : s .height ≤ mostSide) where
-  within : (p : Point) → OnGrid p → Within (s .width) (s .height) (p .x) (p .y)
-  within p g = record { wide = wide; high = high; across = g .0; along = g .1 }
+pub within-grid : (s : Settings) → s .width ≤ mostSide → s .height ≤ mostSide → (p : Point) → OnGrid p → Within (s .width) (s .height) (p .x) (p .y)
+within-grid s wide high p g = record { wide = wide; high = high; across = g .0; along = g .1 }
 
+module _ (s : Settings) (ns : List Point) (wide : s .width ≤ mostSide) (high : s .height ≤ mostSide) where
   same-test : (p q : Point) → OnGrid p → OnGrid q → betterFloat (inside s) (nodeAt s p) (nodeAt s q) ≡ liesBetter s p q
   unfolding distance
-  same-test p q gp gq = same-start gridExponent (omega arith) (inside s) (s .width) (s .height) (p .x) (p .y) (q .x) (q .y) (within p gp) (within q gq)
+  same-test p q gp gq = same-start gridExponent (omega arith) (inside s) (s .width) (s .height) (p .x) (p .y) (q .x) (q .y) (within-grid s wide high p gp) (within-grid s wide high q gq)
 
   same-rest : (v : ℕ) (us : List ℕ) → OnGrid (pointAt ns v) → All (λ (u : ℕ). OnGrid (pointAt ns u)) us → sourceOf s ns v (nodeAt s (pointAt ns v)) us ≡ bestOf s ns v us
   unfolding sourceOf bestOf
@@ -57,5 +57,5 @@ module _ (s : Settings) (ns : List Point) (wide : s .width ≤ mostSide) (high :
   source-start [] a = refl
   source-start (v ∷ vs) a =
       ap (λ (t : Bool). elim t [ true ↦ sourceOf s ns v (nodeAt s (pointAt ns v)) vs | false ↦ sourceOf s ns 0 (worst (inside s)) vs ])
-      (first-taken gridExponent (omega arith) (inside s) (s .width) (s .height) (pointAt ns v .x) (pointAt ns v .y) (within (pointAt ns v) (a .0)))
+      (first-taken gridExponent (omega arith) (inside s) (s .width) (s .height) (pointAt ns v .x) (pointAt ns v .y) (within-grid s wide high (pointAt ns v) (a .0)))
       ∙ same-rest v vs (a .0) (a .1)

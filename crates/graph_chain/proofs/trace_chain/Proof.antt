@@ -1,6 +1,5 @@
 -- `graph_chain::trace_chain` meets its contract. The invariant: at the point p, what is to come leads to the answer. Assumes nothing.
-use mathlib.Core.Path.{_≡_, refl, sym, _∙_}
-use Prim.Native.Nat.{_+_, _-_}
+use Prim.Native.Nat.{_-_}
 use native.Mathlib.Omega.{arith}
 use borrow.Author.Needs.{needs}
 use Rattle.graph_splits.specs.Next.{at}
@@ -12,8 +11,6 @@ use Rattle.graph_chain.specs.Along.{tracedAlong}
 use Rattle.graph_chain.proofs.Walking.{Walking, walk-starts, split-ready, split-drawn, end-ready, end-drawn}
 use Rattle.graph_chain.proofs.trace_chain.Statement.{statement}
 use Rattle.graph_chain.proofs.trace_chain.Tie as tie
-use Rattle.graph_chain.proofs.trace_chain.Reads as reads
-use Rattle.graph_chain.proofs.trace_chain.Lts as lts
 
 abbrev Inv-loop : tie.InvT-loop
 Inv-loop xs₀ ys₀ older₀ buckets₀ ends₀ weights₀ next₀ heads₀ sx sy count ax ay bx by t₀ px₀ py₀ j₀ xs ys older buckets ends weights next heads t px py j =

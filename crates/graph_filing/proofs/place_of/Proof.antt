@@ -1,6 +1,5 @@
 -- `graph_filing::place_of` meets its contract. Assumes nothing.
 use mathlib.Core.Path.{sym, _∙_}
-use native.Mathlib.Omega.{arith}
 use Rattle.graph_filing.proofs.Floats.{place-read, float-no-nan}
 use borrow.Author.Needs.{needs}
 use Rattle.graph_filing.proofs.place_of.Statement.{statement}

@@ -1,5 +1,4 @@
 -- `graph_line::trace_line` meets its contract. The invariant: at the point g, what is to come of the line leads to the answer. Assumes nothing.
-use mathlib.Core.Path.{_≡_, refl, sym, ap, _∙_}
 use Prim.Native.Nat.{_+_, _-_, _<_}
 use native.Mathlib.Omega.{arith}
 use borrow.Author.Needs.{needs}
@@ -12,11 +11,6 @@ use Rattle.graph_line.specs.Lines.{filing, segmentsFrom}
 use Rattle.graph_line.proofs.Lines.{OnLine, ready-first, line-empty, line-begins, line-answer, next-ready, next-drawn, line-ends}
 use Rattle.graph_line.proofs.trace_line.Statement.{statement}
 use Rattle.graph_line.proofs.trace_line.Tie as tie
-use Rattle.graph_line.proofs.trace_line.Reads as reads
-use Rattle.graph_line.proofs.trace_line.Lts as lts
-use Rattle.graph_strokes.proofs.begin.Reads as begin-reads
-use Rattle.graph_line.proofs.trace_segment.Reads as trace-segment-reads
-use Rattle.widen.proofs.wide.Reads as wide-reads
 
 abbrev Inv-loop : tie.InvT-loop
 Inv-loop xs₀ ys₀ older₀ buckets₀ ends₀ weights₀ next₀ heads₀ keys₀ sx₀ sy₀ pxs pys filed newest lx ly first stop last qx qy t₀ g₀ xs ys older buckets ends weights next heads keys sx sy t g =

@@ -2,13 +2,8 @@
 use native.Mathlib.Omega.{arith}
 use Rattle.graph_splits.specs.Next.{at}
 use Rattle.graph_line.proofs.Follow.{segment-ready, segment-drawn, gathered-scratch}
-use borrow.Author.Needs.{needs}
 use Rattle.graph_line.proofs.trace_segment.Statement.{statement}
 use Rattle.graph_line.proofs.trace_segment.Tie as tie
-use Rattle.graph_line.proofs.trace_segment.Reads as reads
-use Rattle.graph_line.proofs.trace_segment.Lts as lts
-use Rattle.graph_segment_ends.proofs.gather.Reads as gather-reads
-use Rattle.graph_chain.proofs.trace_chain.Reads as trace-chain-reads
 
 gather-requires : tie.Need-gather-requires
 gather-requires c κs = let p = c .before .before .before .pre in (p .1 .1 .here, p .1 .0)

@@ -1,7 +1,5 @@
 -- `graph_lines::trace_lines` meets its contract. The invariant: before line i, what is to come leads to the answer. Assumes nothing.
-use mathlib.Core.Path.{_≡_, refl, sym, ap, _∙_}
-use Prim.Native.Nat.{_+_, _-_, _<_}
-use native.Mathlib.Omega.{arith}
+use Prim.Native.Nat.{_-_}
 use Rattle.graph_splits.specs.Points.{points}
 use Rattle.graph_strokes.specs.Step.{tracedIn}
 use Rattle.graph_chain.specs.Along.{tracedAlong}
@@ -12,10 +10,6 @@ use Rattle.graph_lines.proofs.All.{OnLines, start-low, lines-begin, lin
 use borrow.Author.Needs.{needs}
 use Rattle.graph_lines.proofs.trace_lines.Statement.{statement}
 use Rattle.graph_lines.proofs.trace_lines.Tie as tie
-use Rattle.graph_lines.proofs.trace_lines.Reads as reads
-use Rattle.graph_lines.proofs.trace_lines.Lts as lts
-use Rattle.widen.proofs.wide.Reads as wide-reads
-use Rattle.graph_line.proofs.trace_line.Reads as trace-line-reads
 
 abbrev Inv-loop : tie.InvT-loop
 Inv-loop xs₀ ys₀ older₀ buckets₀ ends₀ weights₀ next₀ heads₀ keys₀ sx₀ sy₀ pxs pys filed newest lx ly starts lines t₀ i₀ xs ys older buckets ends weights next heads keys sx sy t i =

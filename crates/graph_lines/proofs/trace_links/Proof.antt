@@ -1,7 +1,5 @@
 -- `graph_lines::trace_links` meets its contract. The invariant: before link k, what is to come leads to the answer. Assumes nothing.
-use mathlib.Core.Path.{_≡_, refl, sym, ap, _∙_}
-use Prim.Native.Nat.{_+_, _-_, _<_}
-use native.Mathlib.Omega.{arith}
+use Prim.Native.Nat.{_-_}
 use Rattle.graph_splits.specs.Points.{points}
 use Rattle.graph_strokes.specs.Step.{tracedIn}
 use Rattle.graph_strokes.proofs.StepLaws.{begin-is}
@@ -12,10 +10,6 @@ use Rattle.graph_lines.proofs.All.{OnLinks, links-begin, first-ready, s
 use borrow.Author.Needs.{needs}
 use Rattle.graph_lines.proofs.trace_links.Statement.{statement}
 use Rattle.graph_lines.proofs.trace_links.Tie as tie
-use Rattle.graph_lines.proofs.trace_links.Reads as reads
-use Rattle.graph_lines.proofs.trace_links.Lts as lts
-use Rattle.graph_strokes.proofs.begin.Reads as begin-reads
-use Rattle.graph_strokes.proofs.step.Reads as step-reads
 
 abbrev Inv-loop : tie.InvT-loop
 Inv-loop xs₀ ys₀ older₀ buckets₀ ends₀ weights₀ next₀ heads₀ pxs pys links t₀ k₀ xs ys older buckets ends weights next heads t k =

@@ -1,5 +1,4 @@
 -- `graph_nodes::insert` meets its contract. Assumes nothing.
-use Rattle.graph_nodes.specs.Table.{table}
 use Rattle.graph_nodes.proofs.Table.{inserted-is}
 use borrow.Author.Needs.{needs}
 use Rattle.graph_nodes.proofs.insert.Statement.{statement}

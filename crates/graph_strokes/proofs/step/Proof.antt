@@ -1,6 +1,5 @@
 -- `graph_strokes::step` meets its contract. Assumes nothing.
 use Rattle.graph_strokes.proofs.StepLaws.{node-low, step-is}
-use borrow.Author.Needs.{needs}
 use Rattle.graph_strokes.proofs.step.Statement.{statement}
 use Rattle.graph_strokes.proofs.step.Tie as tie
 

@@ -1,6 +1,4 @@
 -- `length::part` meets its contract: t is at most 2 ^ 16.
-use borrow.Author.Needs.{needs}
-use Prim.Native.Nat.{_^_}
 use native.Mathlib.Nat.{le-of-lt, mul-le-mul-right}
 use native.Mathlib.Omega.{arith}
 use Rattle.length.proofs.part.Statement.{statement}

@@ -1,12 +1,9 @@
 -- `planner_c::plan` meets its contract. Assumes nothing.
-use mathlib.Core.Path.{sym, ap}
+use mathlib.Core.Path.{sym}
 use borrow.Author.Needs.{needs}
 use Rattle.planner_c.proofs.ExportedLaws.{output-is, floats-are, bytes-are, refused-exported, refused-some, planned-exported, planned-demand}
 use Rattle.planner_c.proofs.plan.Statement.{statement}
 use Rattle.planner_c.proofs.plan.Tie as tie
-use Rattle.planner_c.proofs.plan.Reads as reads
-use Rattle.planner_c.proofs.plan.Lts as lts
-use Rattle.planner.proofs.plan_file.Reads as plan-file-reads
 
 plan-file-requires : tie.Need-plan-file-requires
 plan-file-requires c κs = search needs

@@ -5,11 +5,6 @@ use Rattle.graph_adjacency.specs.Lists.{Adjacency, adjacency}
 use Rattle.planner_graph.proofs.Ways.{not-reached, repair-refused, held, number, line-short, line-points}
 use Rattle.planner_graph.proofs.plan_graph.Statement.{statement}
 use Rattle.planner_graph.proofs.plan_graph.Tie as tie
-use Rattle.planner_graph.proofs.plan_graph.Reads as reads
-use Rattle.planner_graph.proofs.plan_graph.Lts as lts
-use Rattle.graph_reach.proofs.all_reached.Reads as all-reached-reads
-use Rattle.planner_output.proofs.emit_line.Reads as emit-line-reads
-use Rattle.repair.proofs.fix_parity.Reads as fix-parity-reads
 
 abbrev entry : tie.Start → Adjacency
 entry c = adjacency (c .args .ends .now) (c .args .weights .now) (c .args .next .now) (c .args .heads .now)

@@ -1,7 +1,6 @@
 -- `record::write_number` meets its contract. The invariant: the bytes that are left, stored from here on, give all. Assumes nothing.
 use Prim.Native.Nat.{_+_, _≤_}
 use lib.ListN.{length}
-use native.Mathlib.Omega.{arith}
 use Rattle.record.proofs.Stored.{Storing, storing-none, storing-more, storing-all}
 use borrow.Author.Needs.{needs}
 use Rattle.record.proofs.write_number.Statement.{statement}

@@ -7,7 +7,6 @@ use borrow.Author.Needs.{needs}
 use Rattle.file_records.specs.Meaning.{settingsOf}
 use Rattle.graph_adjacency.specs.Lists.{Adjacency, adjacency}
 use Rattle.graph_arrays.specs.Arrays.{graphIn}
-use Rattle.repair_pairs.specs.Pairs as found
 use Rattle.repair.proofs.ParityLaws.{pairs-room, found-refusal, found-some, parity-refused, found-usable, parity-retraced}
 use Rattle.repair.proofs.fix_parity.Statement.{statement}
 use Rattle.repair.proofs.fix_parity.Tie as tie

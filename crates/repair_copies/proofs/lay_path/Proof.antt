@@ -16,13 +16,6 @@ use Rattle.repair_copies.specs.Laying.{laidOf}
 use Rattle.repair_copies.proofs.Laying.{weight-here, weight-on, weight-end, Laying, laying-begin, laying-moved, laying-step, laying-end}
 use Rattle.repair_copies.proofs.lay_path.Statement.{statement}
 use Rattle.repair_copies.proofs.lay_path.Tie as tie
-use Rattle.repair_copies.proofs.lay_path.Reads as reads
-use Rattle.repair_copies.proofs.lay_path.Lts as lts
-use Rattle.graph_adjacency.proofs.first_arc.Reads as first-arc-reads
-use Rattle.graph_adjacency.proofs.next_arc.Reads as next-arc-reads
-use Rattle.graph_adjacency.proofs.push_edge.Reads as push-edge-reads
-use Rattle.repair_copies.proofs.weight_of.Reads as weight-of-reads
-use Rattle.widen.proofs.wide.Reads as wide-reads
 
 -- the weight of the first arc from u to v, of the arcs from k on
 abbrev Seeking : Adjacency → ℕ → ℕ → ℕ → ℕ → Type 0

@@ -6,9 +6,6 @@ use lib.Ieee.{nan}
 use borrow.Author.Needs.{needs}
 use Rattle.repair_copies.proofs.weight_of.Statement.{statement}
 use Rattle.repair_copies.proofs.weight_of.Tie as tie
-use Rattle.repair_copies.proofs.weight_of.Reads as reads
-use Rattle.repair_copies.proofs.weight_of.Lts as lts
-use Rattle.graph_adjacency.proofs.edge_number.Reads as edge-number-reads
 
 edge-number-requires : tie.Need-edge-number-requires
 edge-number-requires c κs = search needs

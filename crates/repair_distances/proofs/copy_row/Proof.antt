@@ -28,10 +28,10 @@ wide-requires : tie.Need-wide-requires Inv-loop μ-loop
 wide-requires c κs = search needs
 
 mul-table : tie.Need-mul-table Inv-loop μ-loop
-mul-table c = let small : c .wide .result < 1534 = omega (arith, c .before .before .before .before .before .pre .1 .below (c .before .before .before .loop .j) (c .before .before .loop-test .taken), c .wide .ensures) in search needs
+mul-table c = let small : c .wide .result < 1534 = omega (arith, c .before .before .before .before .before .pre .1 .nodes-in (c .before .before .before .loop .j) (c .before .before .loop-test .taken), c .wide .ensures) in search needs
 
 element-copy-out-table : tie.Need-element-copy-out-table Inv-loop μ-loop
-element-copy-out-table c = let small : c .wide .result < 1534 = omega (arith, c .before .before .before .before .before .pre .1 .below (c .before .before .before .loop .j) (c .before .before .loop-test .taken), c .wide .ensures) in search needs
+element-copy-out-table c = let small : c .wide .result < 1534 = omega (arith, c .before .before .before .before .before .pre .1 .nodes-in (c .before .before .before .loop .j) (c .before .before .loop-test .taken), c .wide .ensures) in search needs
 
 add-table : tie.Need-add-table Inv-loop μ-loop
 add-table c = search needs

@@ -5,6 +5,8 @@ use mathlib.Core.Path.{_≡_, subst}
 use lib.ListN.{length}
 use Rattle.graph_adjacency.specs.Lists.{adjacency}
 use Rattle.graph_arrays.specs.Arrays.{edgesIn}
+use Rattle.repair_search.specs.Touched.{Unreached}
+use Rattle.repair_search.proofs.Touched.{unreached-new}
 use Rattle.repair_distances.specs.Rows.{Rows}
 use Rattle.repair_distances.proofs.Rows.{rows-none, rows-turn}
 use borrow.Author.Needs.{needs}
@@ -12,18 +14,25 @@ use Rattle.repair_distances.proofs.fill_rows.Statement.{statement}
 use Rattle.repair_distances.proofs.fill_rows.Tie as tie
 
 abbrev Inv-loop : tie.InvT-loop
-Inv-loop ends weights next heads n m odd count table₀ i₀ table i = (i ≤ count) × (length table ≡ length table₀) × Rows n (edgesIn m (adjacency ends weights next heads)) odd count i table
+Inv-loop ends weights next heads n m odd count table₀ infinity dist₀ tree₀ touched₀ i₀ table dist tree touched i =
+    (i ≤ count) × (length table ≡ length table₀) × Rows n (edgesIn m (adjacency ends weights next heads)) odd count i table × Unreached n dist tree touched
 
 abbrev μ-loop : tie.MeasureT-loop
-μ-loop ends weights next heads n m odd count table₀ i₀ table i = count - i
+μ-loop ends weights next heads n m odd count table₀ infinity dist₀ tree₀ touched₀ i₀ table dist tree touched i = count - i
+
+infinity-requires : tie.Need-infinity-requires Inv-loop μ-loop
+infinity-requires c κs = search needs
 
 loop-holds : tie.Need-loop-holds Inv-loop μ-loop
-loop-holds c = (search needs, search needs, rows-none _ _ (c .before .args .odd .now) _ (c .before .args .table .now))
+loop-holds c =
+    let b = c .before .before in
+    (search needs, search needs, rows-none _ _ (b .args .odd .now) _ (b .args .table .now), unreached-new (b .args .n) (b .pre .0 .edges .few-nodes) (c .infinity .result) (c .infinity .ensures))
 
 fill-row-requires : tie.Need-fill-row-requires Inv-loop μ-loop
 fill-row-requires c κs =
-    let b = c .before .before .before .before in
-    (b .pre .0, (b .pre .1 .0, c .before .loop-test .taken, b .pre .1 .1, omega (arith, c .before .before .loop .inv .1, b .pre .1 .2)))
+    let l = c .before .before .before .before .before in
+    let b = l .before .before .before in
+    (l .loop .inv .3, (b .pre .0, (b .pre .1 .0, c .before .before .before .before .loop-test .taken, b .pre .1 .1, omega (arith, l .loop .inv .1, b .pre .1 .2))))
 
 add-i : tie.Need-add-i Inv-loop μ-loop
 add-i c = search needs
@@ -32,14 +41,16 @@ loop-less : tie.Need-loop-less Inv-loop μ-loop
 loop-less c = search needs
 
 loop-again : tie.Need-loop-again Inv-loop μ-loop
-loop-again c = (search needs, search needs, rows-turn _ _ _ _ _ _ _ (c .before .before .fill-row .ensures) (c .before .before .before .before .before .loop .inv .2))
+loop-again c =
+    let f = c .before .before in
+    (search needs, search needs, rows-turn _ _ _ _ _ _ _ (f .fill-row .ensures .0) (f .before .before .before .before .before .before .loop .inv .2), f .fill-row .ensures .1)
 
 same-length : tie.Need-same-length Inv-loop μ-loop
 same-length c = search needs
 
 returns : tie.Need-returns Inv-loop μ-loop
 returns c =
-    let a = c .before .before .before .args in
+    let a = c .before .before .before .before .args in
     let all : c .before .loop .i ≡ a .count = omega (arith, c .before .loop .inv .0, c .loop-test .left) in
     subst (λ (k : ℕ). Rows (a .n) (edgesIn (a .m) (adjacency (a .ends .now) (a .weights .now) (a .next .now) (a .heads .now))) (a .odd .now) (a .count) k (c .before .loop .table)) all (c .before .loop .inv .2)
 
@@ -49,6 +60,7 @@ fill-rows-spec =
     (tie.spec
     Inv-loop
     μ-loop
+    infinity-requires
     loop-holds
     fill-row-requires
     add-i

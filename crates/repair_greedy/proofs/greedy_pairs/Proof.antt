@@ -1,7 +1,7 @@
 -- `repair_greedy::greedy_pairs` meets its contract. The invariant: the pairs that are written, and then those of the nodes that are left, are the definition's.
 use native.Mathlib.Omega.{arith}
 use Rattle.graph_arrays.specs.Arrays.{pointIn, nodesIn}
-use Rattle.graph_arrays.proofs.Arrays.{nodes-most}
+use Rattle.graph_arrays.proofs.NodeList.{nodes-most}
 use Rattle.repair_greedy.specs.Bounds.{Bounds}
 use Rattle.repair_greedy.proofs.Points.{held-most}
 use Rattle.repair_greedy.proofs.Bounds.{bounds-zero}
@@ -26,7 +26,7 @@ pair-nearest-requires c κs =
     let at = c .before .before .before .before .before .loop in
     let s = c .before .before .before .before .before .before in
     let W = at .inv .1 .nodes in
-    (omega arith, omega (arith, at .inv .1 .sum, W .few, s .pre .1 .few), held-most _ _ _ (s .pre .0), nodes-most _ _ _ W (s .pre .0 .few), at .inv .0)
+    (omega arith, omega (arith, at .inv .1 .sum, W .fits, s .pre .1 .fits), held-most _ _ _ (s .pre .0), nodes-most _ _ _ _ W (s .pre .0 .few), at .inv .0)
 
 sub-left : tie.Need-sub-left Inv-loop μ-loop
 sub-left c = omega arith

@@ -3,6 +3,7 @@ use mathlib.Core.List.{map}
 use Prim.Native.Nat.{_^_, _≤_}
 use native.Mathlib.Omega.{arith}
 use lib.ListN.{take}
+use borrow.Author.Needs.{needs}
 use Rattle.repair_spec.specs.Pairing.{nothing, closest}
 use Rattle.graph_arrays.specs.Arrays.{pointIn}
 use Rattle.repair_greedy.specs.Rows.{AtMost}
@@ -11,23 +12,32 @@ use Rattle.repair_greedy.proofs.least_distance.Statement.{statement}
 use Rattle.repair_greedy.proofs.least_distance.Tie as tie
 
 abbrev Inv-loop : tie.InvT-loop
-Inv-loop xs ys working lows₀ left reached₀ turns₀ lows reached turns =
-    AtMost (closest (map (pointIn xs ys) (take left working)) 0 nothing) (reached .squared) × (reached .squared ≤ 2 ^ 49) × Bounds (pointIn xs ys) working left lows
+Inv-loop xs ys working lows₀ left i₀ squared₀ turns₀ lows i squared turns =
+    AtMost (closest (map (pointIn xs ys) (take left working)) 0 nothing) squared × (squared ≤ 2 ^ 49) × Bounds (pointIn xs ys) working left lows
 
 abbrev μ-loop : tie.MeasureT-loop
-μ-loop xs ys working lows₀ left reached₀ turns₀ lows reached turns = turns
+μ-loop xs ys working lows₀ left i₀ squared₀ turns₀ lows i squared turns = turns
 
-look-at-least-requires : tie.Need-look-at-least-requires Inv-loop μ-loop
-look-at-least-requires c κs = c .before .pre
+least-row-requires : tie.Need-least-row-requires Inv-loop μ-loop
+least-row-requires c κs = search needs
+
+look-at-requires : tie.Need-look-at-requires Inv-loop μ-loop
+look-at-requires c κs = let pre = c .before .before .before .pre in (c .before .least-row .ensures, pre .1, pre .2, pre .3)
 
 loop-holds : tie.Need-loop-holds Inv-loop μ-loop
-loop-holds c = c .look-at-least .ensures
+loop-holds c = c .look-at .ensures
+
+least-row-requires-2 : tie.Need-least-row-requires-2 Inv-loop μ-loop
+least-row-requires-2 c κs = search needs
 
 returns : tie.Need-returns Inv-loop μ-loop
-returns c = c .before .before .loop .inv
+returns c = c .before .before .before .before .loop .inv
 
-look-at-least-requires-2 : tie.Need-look-at-least-requires-2 Inv-loop μ-loop
-look-at-least-requires-2 c κs = let pre = c .before .before .before .before .before .before .pre in (pre .0, pre .1, pre .2, c .before .before .before .loop .inv .2)
+look-at-requires-2 : tie.Need-look-at-requires-2 Inv-loop μ-loop
+look-at-requires-2 c κs =
+    let l = c .before .before .before .before .before in
+    let pre = l .before .before .before .before .before .pre in
+    (c .before .before .least-row2 .ensures, pre .1, pre .2, l .loop .inv .2)
 
 sub-turns : tie.Need-sub-turns Inv-loop μ-loop
 sub-turns c = omega arith
@@ -36,7 +46,7 @@ loop-less : tie.Need-loop-less Inv-loop μ-loop
 loop-less c = omega arith
 
 loop-again : tie.Need-loop-again Inv-loop μ-loop
-loop-again c = c .look-at-least2 .ensures
+loop-again c = c .look-at2 .ensures
 
 returns-2 : tie.Need-returns-2 Inv-loop μ-loop
 returns-2 c = c .before .loop .inv
@@ -47,10 +57,12 @@ least-distance-spec =
     (tie.spec
     Inv-loop
     μ-loop
-    look-at-least-requires
+    least-row-requires
+    look-at-requires
     loop-holds
+    least-row-requires-2
     returns
-    look-at-least-requires-2
+    look-at-requires-2
     sub-turns
     loop-less
     loop-again

@@ -31,16 +31,16 @@ wide-requires : tie.Need-wide-requires Inv-loop μ-loop
 wide-requires c κs = search needs
 
 mul-px : tie.Need-mul-px Inv-loop μ-loop
-mul-px c = omega (arith, c .before .before .pre .2 .below (c .before .before .args .i) (omega arith))
+mul-px c = omega (arith, c .before .before .pre .2 .nodes-in (c .before .before .args .i) (omega arith))
 
 element-copy-out-px : tie.Need-element-copy-out-px Inv-loop μ-loop
-element-copy-out-px c = omega (arith, c .before .before .pre .2 .below (c .before .before .args .i) (omega arith))
+element-copy-out-px c = omega (arith, c .before .before .pre .2 .nodes-in (c .before .before .args .i) (omega arith))
 
 mul-py : tie.Need-mul-py Inv-loop μ-loop
-mul-py c = omega (arith, c .before .before .before .pre .2 .below (c .before .before .before .args .i) (omega arith))
+mul-py c = omega (arith, c .before .before .before .pre .2 .nodes-in (c .before .before .before .args .i) (omega arith))
 
 element-copy-out-py : tie.Need-element-copy-out-py Inv-loop μ-loop
-element-copy-out-py c = omega (arith, c .before .before .before .pre .2 .below (c .before .before .before .args .i) (omega arith))
+element-copy-out-py c = omega (arith, c .before .before .before .pre .2 .nodes-in (c .before .before .before .args .i) (omega arith))
 
 add-j : tie.Need-add-j Inv-loop μ-loop
 add-j c = search needs
@@ -52,7 +52,7 @@ element-copy-out-distance-to : tie.Need-element-copy-out-distance-to Inv-loop μ
 element-copy-out-distance-to c = search needs
 
 distance-to-requires : tie.Need-distance-to-requires Inv-loop μ-loop
-distance-to-requires c κs = let pre = c .before .before .before .before .before .pre in (pre .2 .below _ (omega arith), pre .1 .xs-on _, pre .1 .ys-on _, pre .1)
+distance-to-requires c κs = let pre = c .before .before .before .before .before .pre in (pre .2 .nodes-in _ (omega arith), pre .1 .xs-on _, pre .1 .ys-on _, pre .1)
 
 add-j-2 : tie.Need-add-j-2 Inv-loop μ-loop
 add-j-2 c = search needs
@@ -71,7 +71,7 @@ element-copy-out-distance-to-2 : tie.Need-element-copy-out-distance-to-2 Inv-loo
 element-copy-out-distance-to-2 c = search needs
 
 distance-to-requires-2 : tie.Need-distance-to-requires-2 Inv-loop μ-loop
-distance-to-requires-2 c κs = let pre = c .before .before .before .before .before .before .before .before .before .pre in (pre .2 .below _ (omega arith), pre .1 .xs-on _, pre .1 .ys-on _, pre .1)
+distance-to-requires-2 c κs = let pre = c .before .before .before .before .before .before .before .before .before .pre in (pre .2 .nodes-in _ (omega arith), pre .1 .xs-on _, pre .1 .ys-on _, pre .1)
 
 nearer-requires : tie.Need-nearer-requires Inv-loop μ-loop
 nearer-requires c κs = search needs

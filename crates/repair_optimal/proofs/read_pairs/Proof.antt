@@ -2,9 +2,10 @@
 use native.Mathlib.Omega.{arith}
 use Prim.Native.Nat.{_≤_, _<_, _-_, _*_, _^_}
 use mathlib.Core.Path.{_≡_}
-use Rattle.repair_optimal.proofs.Turns.{some-places, pair-out, Reading, reading-start, reading-turn, reading-over}
+use Rattle.repair_optimal.proofs.Turns.{pair-out, Reading, reading-start, reading-turn, reading-over}
 use lib.Count.{ones}
 use Rattle.repair_masks.specs.Table.{Needed}
+use Rattle.repair_masks.proofs.Masks.{some-places}
 use borrow.Author.Needs.{needs}
 use Rattle.repair_optimal.proofs.read_pairs.Statement.{statement}
 use Rattle.repair_optimal.proofs.read_pairs.Tie as tie

@@ -2,7 +2,8 @@
 use native.Mathlib.Omega.{arith}
 use borrow.Author.Needs.{needs}
 use Rattle.file_records.specs.Meaning.{settingsOf}
-use Rattle.repair_pairs.proofs.Refusal.{refused-greedy, refused-many, refused-few, refused-floats, refused-bytes, refused-neither, square-small, power-small}
+use Rattle.repair_pairs.proofs.Refusal.{refused-greedy, refused-many, refused-few, refused-floats, refused-bytes, refused-neither}
+use Rattle.repair_table.proofs.Turns.{square-small, power-small}
 use Rattle.repair_pairs.proofs.optimal_refusal.Statement.{statement}
 use Rattle.repair_pairs.proofs.optimal_refusal.Tie as tie
 

@@ -1,5 +1,5 @@
 -- `repair_pairs::pairs_of` meets its contract.
-use mathlib.Core.Path.{sym, _∙_}
+use mathlib.Core.Path.{_∙_}
 use native.Mathlib.Omega.{arith}
 use borrow.Author.Needs.{needs}
 use Rattle.file_records.specs.Meaning.{settingsOf}
@@ -7,7 +7,6 @@ use Rattle.graph_spec.specs.Odd.{oddNodes}
 use Rattle.graph_adjacency.specs.Lists.{Adjacency, adjacency}
 use Rattle.graph_arrays.specs.Arrays.{edgesIn, graphIn}
 use Rattle.repair_pairs.proofs.Joined.{odd-nodes, odd-four, greedy-is}
-use Rattle.repair_pairs.proofs.Few.{pairs-few}
 use Rattle.repair_pairs.proofs.Refusal.{room-left}
 use Rattle.repair_pairs.proofs.PairsLaws.{pairs-greedy, pairs-optimal, pairs-none}
 use Rattle.repair_pairs.proofs.pairs_of.Statement.{statement}

@@ -6,7 +6,7 @@ use lib.ListN.{length, List·getD-eq-default}
 use borrow.Author.Needs.{needs}
 use lib.Ieee.{nan}
 use Rattle.repair_spec.specs.Distance.{infinity}
-use Rattle.repair_search.proofs.OfferLaws.{getD-inside}
+use Rattle.lists.proofs.Elements.{getD-inside}
 use Rattle.repair_search.proofs.distance_of.Statement.{statement}
 use Rattle.repair_search.proofs.distance_of.Tie as tie
 

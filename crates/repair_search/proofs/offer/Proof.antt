@@ -5,7 +5,8 @@ use native.Mathlib.Omega.{arith}
 use borrow.Author.Needs.{needs}
 use lib.Ieee.{nan, lt}
 use Rattle.repair_spec.specs.Distance.{infinity, distanceAt}
-use Rattle.repair_search.proofs.OfferLaws.{offer-lower, offer-not, getD-inside}
+use Rattle.repair_search.proofs.OfferLaws.{offer-lower, offer-not}
+use Rattle.lists.proofs.Elements.{getD-inside}
 use Rattle.repair_search.proofs.Touched.{below-infinity}
 use Rattle.repair_search.proofs.offer.Statement.{statement}
 use Rattle.repair_search.proofs.offer.Tie as tie

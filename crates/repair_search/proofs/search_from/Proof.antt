@@ -62,20 +62,28 @@ element-copy-out-d c = search needs
 distance-of-requires : tie.Need-distance-of-requires Inv-loop μ-loop
 distance-of-requires c κs = c .before .before .before .loop .inv .1 .held .long
 
-least-requires : tie.Need-least-requires Inv-loop μ-loop
-least-requires c κs = let b = c .before .before .before .before .before .before .before .before .before .before .before .before .before in (omega (arith, b .pre .0 .0), b .pre .1 .edges .few-nodes, c .before .before .before .before .before .before .loop .inv .1 .held .tree)
+last-listed-requires : tie.Need-last-listed-requires Inv-loop μ-loop
+last-listed-requires c κs = let l = c .before .before .before .before .before .before .before in (l .before .before .before .before .before .before .before .pre .0 .0, l .loop .inv .1 .held .long, l .loop .inv .0)
+
+least-at-requires : tie.Need-least-at-requires Inv-loop μ-loop
+least-at-requires c κs =
+    let l = c .before .before .before .before .before .before .before .before .before in
+    (c .before .last-listed .ensures, l .before .before .before .before .before .before .before .pre .1 .edges .few-nodes, l .loop .inv .1 .held .tree)
 
 relax-requires : tie.Need-relax-requires Inv-loop μ-loop
 relax-requires c κs =
-    let l = c .before .before .before .before .before .before .before .before .before .before in
-    let b = c .before .before .before .before .before .before .before .before .before .before .before .before .before .before .before .before .before in
+    let u = c .before .before .before in
+    let l = u .before .before .before .before .before .before .before .before .before .before in
+    let b = l .before .before .before .before .before .before .before in
     let H = l .loop .inv .1 .held in
-    ((c .before .before .before .least .ensures .0, H .tree .nonneg 1 (omega arith), H, l .loop .inv .0), b .pre .1)
+    ((u .least-at .ensures .0, H .tree .nonneg 1 (omega arith), H, l .loop .inv .0), b .pre .1)
 
 store-requires-2 : tie.Need-store-requires-2 Inv-loop μ-loop
 store-requires-2 c κs =
-    let b = c .before .before .before .before .before .before .before .before .before .before .before .before .before .before .before .before .before .before .before in
-    (b .pre .1 .edges .few-nodes, c .before .before .before .before .before .least .ensures .0, c .before .relax .ensures .0 .held .tree, rw (c .before .before .before .before .before .before .before .before .before .before .before .before .before .before .before .before .before .before .infinity .ensures) (inf-nonneg binary64))
+    let u = c .before .before .before .before .before in
+    let l = u .before .before .before .before .before .before .before .before .before .before in
+    let f = l .before .before .before .before .before .before in
+    (f .before .pre .1 .edges .few-nodes, u .least-at .ensures .0, c .before .relax .ensures .0 .held .tree, rw (f .infinity .ensures) (inf-nonneg binary64))
 
 sub-left : tie.Need-sub-left Inv-loop μ-loop
 sub-left c = search needs
@@ -85,14 +93,17 @@ loop-less c = search needs
 
 loop-again : tie.Need-loop-again Inv-loop μ-loop
 loop-again c =
-    let l = c .before .before .before .before .before .before .before .before .before .before .before .before .before in
+    let r = c .before .before in
+    let u = r .before .before .before .before in
+    let e = u .before .before .before .before .before in
+    let g = e .before in
+    let l = g .before .before .before .before in
     let f = l .before .before .before .before .before .before in
     let b = f .before in (
-      c .before .before .relax .ensures .1,
+      r .relax .ensures .1,
       progress-step (b .args .n) (b .args .m) (graph b) (b .pre .1) (b .args .s) (b .pre .0 .0) (f .infinity .result) (f .infinity .ensures) (l .loop .left) (l .loop .dist) (l .loop .tree) (l .loop .inv .1)
-          (b .args .goal) (c .before .before .before .before .before .before .before .before .before .distance-of .result) (c .before .before .before .before .before .before .before .before .before .distance-of .ensures) (c .before .before .before .before .before .before .before .before .before .before .before .before .loop-test .taken) (not-false _ (c .before .before .before .before .before .before .before .before .if1 .left))
-          (c .before .before .before .before .before .before .least .result) (c .before .before .before .before .before .before .least .ensures .0) (c .before .before .before .before .before .before .least .ensures .1)
-          (c .before .before .relax .last .1 .1 .1 .1 .1 .1 .0) (c .before .before .relax .last .1 .1 .1 .1 .1 .1 .1 .0) (c .before .before .relax .ensures .0) (c .store2 .last .0) (c .store2 .ensures),
+          (b .args .goal) (g .distance-of .result) (g .distance-of .ensures) (g .before .before .before .loop-test .taken) (not-false _ (e .if1 .left)) (u .least-at .result) (u .least-at .ensures .0) (u .least-at .ensures .1)
+          (r .relax .last .1 .1 .1 .1 .1 .1 .0) (r .relax .last .1 .1 .1 .1 .1 .1 .1 .0) (r .relax .ensures .0) (c .store2 .last .0) (c .store2 .ensures),
     )
 
 returns : tie.Need-returns Inv-loop μ-loop
@@ -128,7 +139,8 @@ search-from-spec =
     loop-holds
     element-copy-out-d
     distance-of-requires
-    least-requires
+    last-listed-requires
+    least-at-requires
     relax-requires
     store-requires-2
     sub-left

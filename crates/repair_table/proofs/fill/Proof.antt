@@ -1,7 +1,7 @@
 -- `repair_table::fill` meets its contract. The loop's invariant: the entries of all masks below m that are asked for are right, by the distances in the table, which stay.
 use native.Mathlib.Omega.{arith}
 use Rattle.repair_table.proofs.FillLaws.{filled-turn, filled-first, zero-set, filled-all, filled-next, filled-enough}
-use Prim.Native.Nat.{_≤_, _<_, _-_, _*_, _^_}
+use Prim.Native.Nat.{_≤_, _<_, _-_, _*_}
 use mathlib.Core.Path.{_≡_, refl, _∙_}
 use lib.ListN.{length, length-set}
 use lib.Pow.{pow-pos}

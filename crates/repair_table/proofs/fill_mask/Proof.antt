@@ -1,5 +1,4 @@
 -- `repair_table::fill_mask` meets its contract.
-use native.Mathlib.Omega.{arith}
 use mathlib.Core.Path.{sym, _∙_}
 use Rattle.repair_table.proofs.FillLaws.{not-filled, due-filled, due-true}
 use borrow.Author.Tests.{not-true, not-false}

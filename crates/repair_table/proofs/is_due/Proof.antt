@@ -1,6 +1,5 @@
 -- `repair_table::is_due` meets its contract.
 use native.Mathlib.Omega.{arith}
-use mathlib.Core.Path.{_≡_, refl, sym, ap, _∙_}
 use lib.Count.{ones-le}
 use Rattle.repair_table.proofs.FillLaws.{due-low, due-even}
 use borrow.Author.Needs.{needs}

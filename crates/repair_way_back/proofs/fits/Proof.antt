@@ -4,71 +4,51 @@ use Rattle.repair_way_back.proofs.Back.{fitting-seen, fitting-back}
 use borrow.Author.Needs.{needs}
 use Rattle.repair_way_back.proofs.fits.Statement.{statement}
 use Rattle.repair_way_back.proofs.fits.Tie as tie
-use Rattle.repair_way_back.proofs.fits.Reads as reads
-use Rattle.repair_way_back.proofs.fits.Lts as lts
-use Rattle.graph_adjacency.proofs.edge_number.Reads as edge-number-reads
-use Rattle.repair_way_back.proofs.on_way_back.Reads as on-way-back-reads
-use Rattle.widen.proofs.wide.Reads as wide-reads
 
--- src/lib.rt:44:23
 sub-wide : tie.Need-sub-wide
 sub-wide c = search needs
 
--- src/lib.rt:44:18
 mul-wide : tie.Need-mul-wide
 mul-wide c = search needs
 
--- src/lib.rt:44:18
 element-copy-out-wide : tie.Need-element-copy-out-wide
 element-copy-out-wide c = search needs
 
--- src/lib.rt:44:9
 wide-requires : tie.Need-wide-requires
 wide-requires c κs = search needs
 
--- src/lib.rt:45:8
 element-copy-out-if1 : tie.Need-element-copy-out-if1
 element-copy-out-if1 c = search needs
 
--- src/lib.rt:46:9
 returns : tie.Need-returns
 returns c =
     let a = c .before .before .before .before .args in
     fitting-seen (a .ends .now) (a .weights .now) (a .dist .now) (a .seen .now) (a .v) (a .k) _ (c .before .before .wide .ensures) (c .if1 .taken)
 
--- src/lib.rt:48:9
 edge-number-requires : tie.Need-edge-number-requires
 edge-number-requires c κs = search needs
 
--- src/lib.rt:49:17
 mul-on-way-back : tie.Need-mul-on-way-back
 mul-on-way-back c = search needs
 
--- src/lib.rt:49:17
 element-copy-out-on-way-back : tie.Need-element-copy-out-on-way-back
 element-copy-out-on-way-back c = search needs
 
--- src/lib.rt:49:26
 mul-on-way-back-2 : tie.Need-mul-on-way-back-2
 mul-on-way-back-2 c = search needs
 
--- src/lib.rt:49:26
 element-copy-out-on-way-back-2 : tie.Need-element-copy-out-on-way-back-2
 element-copy-out-on-way-back-2 c = search needs
 
--- src/lib.rt:49:38
 mul-on-way-back-3 : tie.Need-mul-on-way-back-3
 mul-on-way-back-3 c = search needs
 
--- src/lib.rt:49:38
 element-copy-out-on-way-back-3 : tie.Need-element-copy-out-on-way-back-3
 element-copy-out-on-way-back-3 c = search needs
 
--- src/lib.rt:49:5
 on-way-back-requires : tie.Need-on-way-back-requires
 on-way-back-requires c κs = search needs
 
--- src/lib.rt:33:1
 returns-2 : tie.Need-returns-2
 returns-2 c =
     let f = c .before .before .before .before .before in

@@ -2,9 +2,9 @@
 use mathlib.Core.Path.{_≡_, refl, sym, ap, subst, _∙_}
 use mathlib.Core.List.{List}
 use mathlib.Core.Bool.{Bool, true}
-use Prim.Native.Nat.{ℕ, _≤_, _<_, _+_, _-_}
+use Prim.Native.Nat.{ℕ, _-_}
 use native.Mathlib.Omega.{arith}
-use lib.ListN.{length, getD, set, drop}
+use lib.ListN.{length, set, drop}
 use borrow.Author.Needs.{needs}
 use Rattle.limits.specs.Limits.{mostNodes}
 use Rattle.graph_spec.specs.Graph.{Edge, Arc, edgesAt}
@@ -17,12 +17,6 @@ use Rattle.repair_way_back.specs.Back.{fitting}
 use Rattle.repair_way_back.proofs.Back.{Going, going-begin, going-here, going-none, going-skip, going-on, going-end, going-long}
 use Rattle.repair_way_back.proofs.way_back.Statement.{statement}
 use Rattle.repair_way_back.proofs.way_back.Tie as tie
-use Rattle.repair_way_back.proofs.way_back.Reads as reads
-use Rattle.repair_way_back.proofs.way_back.Lts as lts
-use Rattle.graph_adjacency.proofs.first_arc.Reads as first-arc-reads
-use Rattle.graph_adjacency.proofs.next_arc.Reads as next-arc-reads
-use Rattle.repair_way_back.proofs.fits.Reads as fits-reads
-use Rattle.widen.proofs.wide.Reads as wide-reads
 
 abbrev Inv-loop : tie.InvT-loop
 Inv-loop ends weights next heads n m dist path s t seen last at v₀ k₀ v k =

@@ -1,5 +1,5 @@
 -- `walk_circuit::first_arcs` meets its contract: the nodes passed have their first arcs. Assumes nothing.
-use Prim.Native.Nat.{_-_, _≤_}
+use Prim.Native.Nat.{_-_}
 use native.Mathlib.Omega.{arith}
 use borrow.Author.Needs.{needs}
 use Rattle.walk_circuit.specs.FirstArcs.{FirstArcs}

@@ -8,7 +8,7 @@ use Rattle.graph_adjacency.specs.Lists.{Adjacency, adjacency}
 use Rattle.graph_arrays.specs.Arrays.{edgesIn}
 use Rattle.graph_arrays.proofs.Listing.{Listing, listing-start, listing-one, listing-none, listing-end}
 use Rattle.walk_spec.specs.Start.{withEdges}
-use Rattle.walk_start.proofs.Listed.{arc-some, arc-none, with-nil, with-few, left-some, left-none}
+use Rattle.walk_start.proofs.Listed.{edgesMeet, with-chosen, arc-some, arc-none}
 use borrow.Author.Needs.{needs}
 use Rattle.walk_start.proofs.nodes_with_edges.Statement.{statement}
 use Rattle.walk_start.proofs.nodes_with_edges.Tie as tie
@@ -51,14 +51,14 @@ loop-again : tie.Need-loop-again Inv-loop μ-loop
 loop-again c =
     let e = edgesIn (c .before .before .before .before .before .args .m) (arrays (c .before .before .before .before .before)) in
     ⊎-elim
-    (λ w. (omega arith, omega (arith, w .2), listing-one _ _ _ _ _ _ _ _ (c .before .before .before .loop .inv .2) (w .1) (w .2) (left-some e _ _ (c .before .before .loop-test .taken) (arc-some _ _ (arrays (c .before .before .before .before .before)) (c .before .before .before .before .before .pre) _ (c .before .before .loop-test .taken) (λ z. w .0 .taken (c .before .first-arc .ensures ∙ z))))))
-    (λ w. (omega arith, omega (arith, w .2), listing-none _ _ _ _ _ _ _ _ (c .before .before .before .loop .inv .2) (w .1) (w .2) (left-none e _ _ (c .before .before .loop-test .taken) (arc-none _ _ (arrays (c .before .before .before .before .before)) (c .before .before .before .before .before .pre) _ (c .before .before .loop-test .taken) (sym (c .before .first-arc .ensures) ∙ w .0 .left)))))
+    (λ w. (omega arith, omega (arith, w .2), listing-one (withEdges e) (edgesMeet e) (with-chosen e) _ _ _ _ _ _ _ (c .before .before .loop-test .taken) (c .before .before .before .loop .inv .2) (w .1) (w .2) (arc-some _ _ (arrays (c .before .before .before .before .before)) (c .before .before .before .before .before .pre) _ (c .before .before .loop-test .taken) (λ z. w .0 .taken (c .before .first-arc .ensures ∙ z)))))
+    (λ w. (omega arith, omega (arith, w .2), listing-none (withEdges e) (edgesMeet e) (with-chosen e) _ _ _ _ _ _ _ (c .before .before .loop-test .taken) (c .before .before .before .loop .inv .2) (w .1) (w .2) (arc-none _ _ (arrays (c .before .before .before .before .before)) (c .before .before .before .before .before .pre) _ (c .before .before .loop-test .taken) (sym (c .before .first-arc .ensures) ∙ w .0 .left))))
     (c .if1 .came)
 
 returns : tie.Need-returns Inv-loop μ-loop
 returns c =
     let e = edgesIn (c .before .before .before .args .m) (arrays (c .before .before .before)) in
-    listing-end (withEdges e) mostNodes _ _ _ _ (c .loop-test .left) (with-nil e _) (omega (arith, c .before .before .before .pre .few-nodes, with-few e (c .before .before .before .args .n))) (c .before .loop .inv .2)
+    listing-end (withEdges e) (edgesMeet e) (with-chosen e) _ _ _ _ _ (c .before .before .before .pre .few-nodes) (c .loop-test .left) (c .before .loop .inv .2)
 
 pub nodes-with-edges-spec : {M : Type 1} → statement M
 nodes-with-edges-spec =

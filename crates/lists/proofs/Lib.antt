@@ -1,0 +1,5 @@
+-- Laws of lists.
+pub mod Members
+pub mod Elements
+pub mod Parts
+pub mod Tabulate

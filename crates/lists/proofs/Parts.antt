@@ -1,0 +1,24 @@
+-- Parts of a list, and stores of one part behind another.
+use Prim.Native.Nat.{ℕ, suc, _+_}
+use native.Mathlib.Nat.{add-zero}
+use native.Mathlib.Numerals.{add-one}
+use native.Mathlib.Omega.{arith}
+use mathlib.Core.Path.{_≡_, sym, ap, _∙_}
+use mathlib.Core.List.{List, [], _∷_, _++_}
+use lib.ListN.{length, getD, drop, set}
+use lib.Seq.{sets, getD-drop, drop-drop}
+
+-- what stands at a place, and behind it, where the rest from there on is known
+module _ {A : Type 0} (l : List A) (i : ℕ) (v d : A) (rest : List A) (e : drop i l ≡ v ∷ rest) where
+  pub at-front : getD l i d ≡ v
+  at-front = ap (λ (j : ℕ). getD l j d) (sym (add-zero i)) ∙ sym (getD-drop i l 0 d) ∙ ap (λ (m : List A). getD m 0 d) e
+
+  pub behind-front : drop (suc i) l ≡ rest
+  behind-front = ap (λ (j : ℕ). drop j l) (sym (add-one i)) ∙ sym (drop-drop 1 i l) ∙ ap (drop 1) e
+
+-- stored in two parts
+pub sets-append : {A : Type 0} (l : List A) (i : ℕ) (a b : List A) → sets l i (a ++ b) ≡ sets (sets l i a) (i + length a) b
+sets-append l i [] b = ap (λ (k : ℕ). sets l k b) (sym (add-zero i))
+sets-append l i (x ∷ a) b =
+    let e : suc i + length a ≡ i + suc (length a) = omega arith in
+    sets-append (set l i x) (suc i) a b ∙ ap (λ (k : ℕ). sets (sets (set l i x) (suc i) a) k b) e

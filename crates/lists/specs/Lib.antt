@@ -1,0 +1,3 @@
+-- Lists: their elements, and the list of the values of a function.
+pub mod Members
+pub mod Tabulate
