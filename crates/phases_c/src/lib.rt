@@ -25,6 +25,9 @@ use phases::Phase;
 use phases::READ;
 use phases::REPAIR;
 
+// No node, in the lists of nodes by their hash.
+const NO_NODE: u16 = MOST_NODES as u16;
+
 // Of the graph of n nodes and m edges in the arrays.
 fn phase_of_graph(
     xs: &[u32; MOST_NODES],
@@ -96,8 +99,8 @@ fn phase_of_drawing(drawing: Drawing, floats: &mut [f64], bytes: &mut [u8], last
     let settings = drawing.settings;
     let mut xs = [0u32; MOST_NODES];
     let mut ys = [0u32; MOST_NODES];
-    let mut older = [1534u16; MOST_NODES];
-    let mut buckets = [1534u16; BUCKETS];
+    let mut older = [NO_NODE; MOST_NODES];
+    let mut buckets = [NO_NODE; BUCKETS];
     let mut ends = [0u16; 2 * EDGE_ROOM];
     let mut weights = [0.0f64; EDGE_ROOM];
     let mut next = [0u16; 2 * EDGE_ROOM];
