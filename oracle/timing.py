@@ -2,17 +2,25 @@
 """Times the planner that is linked into the oracle beside the published one, as tables for docs/PERFORMANCE.md.
 
 usage: oracle/timing.py ORACLE TABLE ...       TABLE is goals, slow, growth, small, phases, walk, found or stack
+       oracle/timing.py --programs PLAN RUST   the programs as a person runs them, on the tiny and refused drawings
        oracle/timing.py --write FOLDER         the drawings of all tables as files, for other planners
 
 ORACLE was built with --planner and --petgraph (and --phases, for the port's columns of phases and walk). Both planners
 run in one process on the same drawings; a time is the least of nine rounds in which they take turns, as processor time
 of a call. The port also writes the record of the line, which the published functions leave to their caller.
+
+PLAN is target/bin/plan, RUST an oracle built with --petgraph alone: each reads a drawing on standard input and prints
+its answer. A time is that of a whole run, from the start of the process to its end: the least of nine rounds, each the
+mean of 100 runs, in which the two take turns.
 """
+import os
 import pathlib
 import random
 import re
 import subprocess
 import sys
+import tempfile
+import time
 
 import drawing as d
 import generate as g
@@ -63,7 +71,7 @@ def full():
     return g.write(lines, [(j, 0, on(j), i, 0, on(i)) for i in range(1, 256) for j in [max(0, i - rng.choice([1, 7, 20]))]])
 
 
-# The rows of issue 11: name, file, what is lent, the goal as a part of the published planner's time.
+# The rows that have a goal: name, file, what is lent, the goal as a part of the published planner's time.
 def goals():
     yield "cross, Greedy", d.drawing(CROSS), {}, 1.0
     yield "cross, Optimal", d.drawing(CROSS, pairing=1), {}, 1.0
@@ -125,7 +133,7 @@ def phases():
     yield from (row[:3] for row in list(goals())[4:])
 
 
-# For issue 10: a line that repair lengthens to so many edges.
+# A line that repair lengthens to so many edges.
 def walk():
     for edges in (500, 1000, 2000, 4000):
         yield f"{edges:,} edges", g.hairpin((edges - 12) // 4, 3, 0, 1), {}
@@ -226,6 +234,33 @@ def print_stack(oracle, rows):
     print(f"Deepest stack of a call, over {len(rows)} drawings: {deepest[0]:,.0f} bytes ({deepest[1]}).")
 
 
+def run_often(program, path, count):
+    """The mean time of a run, in nanoseconds."""
+    null = os.open(os.devnull, os.O_WRONLY)
+    began = time.perf_counter_ns()
+    for _ in range(count):
+        given = os.open(path, os.O_RDONLY)
+        child = os.posix_spawn(program, [program], os.environ, file_actions=[
+            (os.POSIX_SPAWN_DUP2, given, 0), (os.POSIX_SPAWN_DUP2, null, 1), (os.POSIX_SPAWN_DUP2, null, 2)])
+        os.close(given)
+        os.waitpid(child, 0)
+    took = (time.perf_counter_ns() - began) / count
+    os.close(null)
+    return took
+
+
+def print_programs(plan, rust):
+    head("drawing (µs for a run)", "port", "Rust", "port by it")
+    rows = [*((name, file) for name, file, lent in small() if not lent), ("cross", d.drawing(CROSS)), ("lace, closed", g.write(lace(), flags=1))]
+    for name, file in rows:
+        with tempfile.NamedTemporaryFile() as path:
+            path.write(file)
+            path.flush()
+            rounds = [(run_often(plan, path.name, 100), run_often(rust, path.name, 100)) for _ in range(9)]
+        port, other = map(min, zip(*rounds))
+        print_row(name, [micro(port), micro(other), ratio(port, other)], range(3))
+
+
 TABLES = dict(goals=goals, slow=slow_ones, growth=growth, small=small, phases=phases, walk=walk, found=found)
 
 
@@ -236,6 +271,9 @@ def main():
         for rows in TABLES.values():
             for name, file, *_ in rows():
                 (folder / f"{name.replace(' ', '-')}.drawing").write_bytes(file)
+        return
+    if sys.argv[1] == "--programs":
+        print_programs(*sys.argv[2:])
         return
     oracle, *wanted = sys.argv[1:]
     for name in wanted:

@@ -1,6 +1,6 @@
 -- A drawing as a value: its settings, its lines and its links. A coordinate is its place on the grid.
 use Prim.Native.Nat.{ℕ, _/_, _%_}
-use mathlib.Core.List.{List}
+use mathlib.Core.List.{List, [], _∷_, _++_}
 use mathlib.Core.Bool.{Bool, _&&_}
 use lib.Dec.{eqb}
 
@@ -43,3 +43,8 @@ pub record Drawing : Type 0 where
   pub settings : Settings
   pub lines : List (List Point)
   pub links : List Link
+
+-- the points of all lines, in order
+unfoldable pub linePoints : List (List Point) → List Point
+linePoints [] = []
+linePoints (l ∷ ls) = l ++ linePoints ls

@@ -10,6 +10,7 @@ use lib.Seq.{sets}
 use borrow.Author.Tests.{leb-true}
 use Rattle.limits.specs.Limits.{mostLines, mostPoints, mostLinks}
 use Rattle.drawing_spec.specs.Drawing as drawn
+use Rattle.drawing_spec.specs.Drawing.{linePoints}
 use Rattle.drawing_spec.specs.Read.{Record, lineOf, linkOf, bodies, total, kindsFit, lengthsFit, settingsFit, countsFit, linksFit, recordsOf, isCut, drawingOf}
 use Rattle.file_records.specs.Body.{settingsFrom, edgeFrom, recordRead}
 use Rattle.file_records.specs.declared.Settings.{Settings}
@@ -21,8 +22,9 @@ use Rattle.file_drawing.specs.Held.{noEdge, drawingHeld}
 use Rattle.file_records.specs.Meaning.{settingsOf}
 use Rattle.file_checks.specs.Tally.{tallied, noTally, orderFits}
 use Rattle.file_checks.proofs.TallyLaws.{kinds, lengths}
-use Rattle.file_drawing.specs.Stores.{padded, flat, xsOf, ysOf, endsFrom}
-use Rattle.file_drawing.proofs.Stores.{sets-padded, length-flat, length-ends}
+use Rattle.file_drawing.specs.Stores.{padded, xsOf, ysOf, endsFrom}
+use Rattle.file_drawing.proofs.Stores.{sets-padded, length-ends}
+use Rattle.drawing_spec.proofs.Drawing.{length-line-points}
 use Rattle.file.proofs.First.{settings-read, bodies-behind, at-lines, lines-tally, points-tally, links-tally, counts-tally, points-in}
 use Rattle.file_checks.proofs.CoordinatesLaws.{and-first, and-second}
 use Rattle.file_drawing.specs.Lines.{Arrays, arrays, AtLines, LinesRead, linesFrom}
@@ -66,8 +68,8 @@ same-drawing s s' n n' q q' m m' a a' x x' y y' k k' es en eq em ea ex ey ek = c
 filled-as : {A : Type 0} (n : ℕ) (z : A) (a vs ws : List A) → a ≡ sets (replicate n z) 0 vs → vs ≡ ws → length ws ≤ n → a ≡ padded n z ws
 filled-as n z a vs ws e i h = e ∙ ap (sets (replicate n z) 0) i ∙ sets-padded n z ws h
 
-places-as : (g : drawn.Point → ℕ) (ls ms : List (List drawn.Point)) (a : List ℕ) → a ≡ sets (replicate mostPoints 0) 0 (map g (flat ls)) → ls ≡ ms → total (map (λ (l : List drawn.Point). length l) ms) ≤ mostPoints → a ≡ padded mostPoints 0 (map g (flat ms))
-places-as g ls ms a e i h = filled-as mostPoints 0 a (map g (flat ls)) (map g (flat ms)) e (ap (λ (ls : List (List drawn.Point)). map g (flat ls)) i) (rw (length-map (flat ms) g, length-flat ms) h)
+places-as : (g : drawn.Point → ℕ) (ls ms : List (List drawn.Point)) (a : List ℕ) → a ≡ sets (replicate mostPoints 0) 0 (map g (linePoints ls)) → ls ≡ ms → total (map (λ (l : List drawn.Point). length l) ms) ≤ mostPoints → a ≡ padded mostPoints 0 (map g (linePoints ms))
+places-as g ls ms a e i h = filled-as mostPoints 0 a (map g (linePoints ls)) (map g (linePoints ms)) e (ap (λ (ls : List (List drawn.Point)). map g (linePoints ls)) i) (rw (length-map (linePoints ms) g, length-line-points ms) h)
 
 starts-as : (ls ms : List (List drawn.Point)) (a : List ℕ) → a ≡ sets (replicate (mostLines + 1) 0) 1 (endsFrom 0 ls) → ls ≡ ms → length ms ≤ mostLines → a ≡ padded (mostLines + 1) 0 (0 ∷ endsFrom 0 ms)
 starts-as ls ms a e i h = let m = length-ends 0 ms in filled-as (mostLines + 1) 0 a (0 ∷ endsFrom 0 ls) (0 ∷ endsFrom 0 ms) e (ap (λ (ls : List (List drawn.Point)). 0 ∷ endsFrom 0 ls) i) (omega arith)
@@ -110,8 +112,8 @@ module _ (file : List ℕ) (p : Passed file) (t : Tally) (e : t ≡ tallied (rec
       let lines-are : linesFrom file 16 ≡ map lineOf (bodies 2 rs) = ap (map lineOf) (sym (bodies-behind file w (p .in-order) (p .long) 2 (λ q. omega arith))) in
       let links-are : edgesFrom file end ≡ map edgeFrom (map linkOf (bodies 3 rs)) = ap (λ (bs : List (List ℕ)). map edgeFrom (map linkOf bs)) (l .same-links ∙ sym (bodies-behind file w (p .in-order) (p .long) 3 (λ q. omega arith))) in
       let few-e : length (map edgeFrom (map linkOf (bodies 3 rs))) ≤ mostLinks = rw (length-map (map linkOf (bodies 3 rs)) edgeFrom) (f .2) in
-      same-drawing s (settingsFrom (d .settings)) (t .lines) (length (d .lines)) (t .points) (length (flat (d .lines))) (t .links) (length (d .links)) (r .starts) (padded (mostLines + 1) 0 (0 ∷ endsFrom 0 (d .lines))) (r .xs) (padded mostPoints 0 (xsOf (flat (d .lines)))) (r .ys) (padded mostPoints 0 (ysOf (flat (d .lines)))) edges (padded mostLinks noEdge (map edgeFrom (d .links)))
-      (i ∙ settings-read file w (p .in-order) (p .long)) (lines-tally rs t e) (points-tally rs t e ∙ sym (length-flat (d .lines))) (links-tally rs t e)
+      same-drawing s (settingsFrom (d .settings)) (t .lines) (length (d .lines)) (t .points) (length (linePoints (d .lines))) (t .links) (length (d .links)) (r .starts) (padded (mostLines + 1) 0 (0 ∷ endsFrom 0 (d .lines))) (r .xs) (padded mostPoints 0 (xsOf (linePoints (d .lines)))) (r .ys) (padded mostPoints 0 (ysOf (linePoints (d .lines)))) edges (padded mostLinks noEdge (map edgeFrom (d .links)))
+      (i ∙ settings-read file w (p .in-order) (p .long)) (lines-tally rs t e) (points-tally rs t e ∙ sym (length-line-points (d .lines))) (links-tally rs t e)
       (starts-as (linesFrom file 16) (d .lines) (r .starts) (l .starts-are) lines-are (f .0))
       (places-as (λ (p : drawn.Point). p .x) (linesFrom file 16) (d .lines) (r .xs) (l .xs-are) lines-are (f .1))
       (places-as (λ (p : drawn.Point). p .y) (linesFrom file 16) (d .lines) (r .ys) (l .ys-are) lines-are (f .1))
@@ -146,6 +148,6 @@ module _ (file : List ℕ) (p : Passed file) (d : Drawing) (e : d ≡ drawingHel
 
 pub empty-made : (s : Settings) (k : MstEdge) → s ≡ noSettings → k ≡ noEdge
     → _≡_ {A = Drawing} (record { settings = s; lines = 0; starts = replicate (mostLines + 1) 0; points = 0; xs = replicate mostPoints 0; ys = replicate mostPoints 0; «link_count» = 0; links = replicate mostLinks k }) (drawingHeld noDrawing)
-unfolding drawingHeld flat endsFrom
+unfolding drawingHeld linePoints endsFrom
 empty-made s k es ek = ap (λ (s : Settings). record { settings = s; lines = 0; starts = replicate (mostLines + 1) 0; points = 0; xs = replicate mostPoints 0; ys = replicate mostPoints 0; «link_count» = 0; links = replicate mostLinks k }) es
     ∙ ap (λ (k : MstEdge). record { settings = noSettings; lines = 0; starts = replicate (mostLines + 1) 0; points = 0; xs = replicate mostPoints 0; ys = replicate mostPoints 0; «link_count» = 0; links = replicate mostLinks k }) ek

@@ -9,12 +9,13 @@ use Rattle.limits.specs.Limits.{mostLines, mostPoints, mostLinks}
 use Rattle.lists.proofs.Parts.{at-front, behind-front}
 use Rattle.drawing_spec.specs.Bytes.{number}
 use Rattle.drawing_spec.specs.Drawing as drawn
+use Rattle.drawing_spec.specs.Drawing.{linePoints}
 use Rattle.drawing_spec.specs.Read.{Record, point, points, settingsOf, lineOf, linkOf, bodies, drawingOf}
 use Rattle.drawing_spec.proofs.OnGrid.{read-below, place-back}
 use Rattle.file_records.specs.Body.{edgeFrom}
 use Rattle.file_records.specs.declared.MstEdge.{MstEdge}
 use Rattle.file_drawing.specs.Held.{noEdge, pastEnd, drawingHeld}
-use Rattle.file_drawing.specs.Stores.{padded, flat, xsOf, ysOf, endsFrom}
+use Rattle.file_drawing.specs.Stores.{padded, xsOf, ysOf, endsFrom}
 use Rattle.file_drawing.specs.Back.{drawingFrom, linesBack, linkBack, linksBack, pointsBack}
 
 pub points-back : (ps : List drawn.Point) (k : ℕ) (xs ys r s : List ℕ) → drop k xs ≡ xsOf ps ++ r → drop k ys ≡ ysOf ps ++ s → pointsBack (length ps) k xs ys ≡ ps
@@ -25,15 +26,15 @@ points-back (p ∷ ps) k xs ys r s ex ey =
     (ap (λ (qs : List drawn.Point). p ∷ qs) (points-back ps (suc k) xs ys r s (behind-front xs k (p .x) 0 (xsOf ps ++ r) ex) (behind-front ys k (p .y) 0 (ysOf ps ++ s) ey)))
 
 -- the values of one line, and then those of the others
-module _ (g : drawn.Point → ℕ) (l : List drawn.Point) (ls : List (List drawn.Point)) (k : ℕ) (vs r : List ℕ) (e : drop k vs ≡ map g (flat (l ∷ ls)) ++ r) where
-  pub this-line : drop k vs ≡ map g l ++ (map g (flat ls) ++ r)
-  unfolding flat
-  this-line = e ∙ ap (λ (m : List ℕ). m ++ r) (map-append g l (flat ls)) ∙ append-assoc (map g l) (map g (flat ls)) r
+module _ (g : drawn.Point → ℕ) (l : List drawn.Point) (ls : List (List drawn.Point)) (k : ℕ) (vs r : List ℕ) (e : drop k vs ≡ map g (linePoints (l ∷ ls)) ++ r) where
+  pub this-line : drop k vs ≡ map g l ++ (map g (linePoints ls) ++ r)
+  unfolding linePoints
+  this-line = e ∙ ap (λ (m : List ℕ). m ++ r) (map-append g l (linePoints ls)) ∙ append-assoc (map g l) (map g (linePoints ls)) r
 
-  pub other-lines : drop (k + length l) vs ≡ map g (flat ls) ++ r
-  other-lines = sym (drop-drop (length l) k vs) ∙ ap (drop (length l)) this-line ∙ drop-at (map g l) (map g (flat ls) ++ r) (length l) (length-map l g)
+  pub other-lines : drop (k + length l) vs ≡ map g (linePoints ls) ++ r
+  other-lines = sym (drop-drop (length l) k vs) ∙ ap (drop (length l)) this-line ∙ drop-at (map g l) (map g (linePoints ls) ++ r) (length l) (length-map l g)
 
-lines-back : (ls : List (List drawn.Point)) (i k : ℕ) (starts xs ys q r s : List ℕ) → drop i starts ≡ k ∷ (endsFrom k ls ++ q) → drop k xs ≡ xsOf (flat ls) ++ r → drop k ys ≡ ysOf (flat ls) ++ s → linesBack (length ls) i starts xs ys ≡ ls
+lines-back : (ls : List (List drawn.Point)) (i k : ℕ) (starts xs ys q r s : List ℕ) → drop i starts ≡ k ∷ (endsFrom k ls ++ q) → drop k xs ≡ xsOf (linePoints ls) ++ r → drop k ys ≡ ysOf (linePoints ls) ++ s → linesBack (length ls) i starts xs ys ≡ ls
 unfolding linesBack endsFrom
 lines-back [] i k starts xs ys q r s es ex ey = refl
 lines-back (l ∷ ls) i k starts xs ys q r s es ex ey =
@@ -44,7 +45,7 @@ lines-back (l ∷ ls) i k starts xs ys q r s es ex ey =
       at-front starts i k 0 (n ∷ (endsFrom n ls ++ q)) es,
       at-front starts (suc i) n 0 (endsFrom n ls ++ q) next,
       m,
-      points-back l k xs ys (xsOf (flat ls) ++ r) (ysOf (flat ls) ++ s) (this-line (λ (p : drawn.Point). p .x) l ls k xs r ex) (this-line (λ (p : drawn.Point). p .y) l ls k ys s ey),
+      points-back l k xs ys (xsOf (linePoints ls) ++ r) (ysOf (linePoints ls) ++ s) (this-line (λ (p : drawn.Point). p .x) l ls k xs r ex) (this-line (λ (p : drawn.Point). p .y) l ls k ys s ey),
     )
     (ap (λ (ms : List (List drawn.Point)). l ∷ ms) (lines-back ls (suc i) n starts xs ys q r s next (other-lines (λ (p : drawn.Point). p .x) l ls k xs r ex) (other-lines (λ (p : drawn.Point). p .y) l ls k ys s ey)))
 
@@ -69,8 +70,8 @@ unfolding drawingFrom drawingHeld drawingOf
 drawing-back rs =
     let ls = map lineOf (bodies 2 rs) in
     let bs = bodies 3 rs in
-    let lines-are : linesBack (length ls) 0 (padded (mostLines + 1) 0 (0 ∷ endsFrom 0 ls)) (padded mostPoints 0 (xsOf (flat ls))) (padded mostPoints 0 (ysOf (flat ls))) ≡ ls =
-    lines-back ls 0 0 (padded (mostLines + 1) 0 (0 ∷ endsFrom 0 ls)) (padded mostPoints 0 (xsOf (flat ls))) (padded mostPoints 0 (ysOf (flat ls))) (replicate ((mostLines + 1) - length (0 ∷ endsFrom 0 ls)) 0) (replicate (mostPoints - length (xsOf (flat ls))) 0) (replicate (mostPoints - length (ysOf (flat ls))) 0) refl refl refl in
+    let lines-are : linesBack (length ls) 0 (padded (mostLines + 1) 0 (0 ∷ endsFrom 0 ls)) (padded mostPoints 0 (xsOf (linePoints ls))) (padded mostPoints 0 (ysOf (linePoints ls))) ≡ ls =
+    lines-back ls 0 0 (padded (mostLines + 1) 0 (0 ∷ endsFrom 0 ls)) (padded mostPoints 0 (xsOf (linePoints ls))) (padded mostPoints 0 (ysOf (linePoints ls))) (replicate ((mostLines + 1) - length (0 ∷ endsFrom 0 ls)) 0) (replicate (mostPoints - length (xsOf (linePoints ls))) 0) (replicate (mostPoints - length (ysOf (linePoints ls))) 0) refl refl refl in
     let links-are : linksBack (length (map linkOf bs)) 0 (padded mostLinks noEdge (map edgeFrom (map linkOf bs))) ≡ map linkOf bs =
     ap (λ (n : ℕ). linksBack n 0 (padded mostLinks noEdge (map edgeFrom (map linkOf bs)))) (length-map bs linkOf)
     ∙ links-back bs 0 (padded mostLinks noEdge (map edgeFrom (map linkOf bs))) (replicate (mostLinks - length (map edgeFrom (map linkOf bs))) noEdge) refl in

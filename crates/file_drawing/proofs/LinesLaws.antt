@@ -11,7 +11,7 @@ use borrow.Author.Tests.{le-leb}
 use Rattle.limits.specs.Limits.{mostPoints}
 use Rattle.grid.specs.Grid.{readPlace}
 use Rattle.drawing_spec.specs.Bytes.{number}
-use Rattle.drawing_spec.specs.Drawing.{Point}
+use Rattle.drawing_spec.specs.Drawing.{Point, linePoints}
 use Rattle.drawing_spec.specs.Read.{placeAt, points, lineOf, bodies, total, linesThenLinks, lengthsFit}
 use Rattle.file_records.specs.Walk.{sizeAt, kindAt, bodyAt, nextAt, recordsFrom, cutFrom}
 use Rattle.file_records.proofs.Walk.{recordAt, room, still-whole, record-here, body-long}
@@ -26,7 +26,7 @@ use Rattle.file_checks.specs.Tally.{pointsIn}
 use Rattle.file_checks.proofs.TallyLaws.{line-size, bodies-here, bodies-other}
 use Rattle.file_checks.proofs.KindsLaws.{line-next, links-next, some-left}
 use Rattle.file_checks.proofs.CoordinatesLaws.{length-here, lengths-after}
-use Rattle.file_drawing.specs.Stores.{flat, xsOf, ysOf, endsFrom}
+use Rattle.file_drawing.specs.Stores.{xsOf, ysOf, endsFrom}
 use Rattle.file_drawing.proofs.Stores.{sets-map}
 use Rattle.file_drawing.specs.Lines.{Arrays, arrays, AtLines, LinesRead, linesFrom}
 
@@ -113,8 +113,8 @@ pub record Filling (file : List ℕ) (start count : ℕ) (a : Arrays) (at line f
   pub few-points : filled + pointsIn (bodies 2 (recordsFrom file at)) ≤ mostPoints
   pub same-links : bodies 3 (recordsFrom file at) ≡ bodies 3 (recordsFrom file start)
   pub same-starts : sets starts (line + 1) (endsFrom filled (linesFrom file at)) ≡ sets (a .starts) 1 (endsFrom 0 (linesFrom file start))
-  pub same-xs : sets xs filled (xsOf (flat (linesFrom file at))) ≡ sets (a .xs) 0 (xsOf (flat (linesFrom file start)))
-  pub same-ys : sets ys filled (ysOf (flat (linesFrom file at))) ≡ sets (a .ys) 0 (ysOf (flat (linesFrom file start)))
+  pub same-xs : sets xs filled (xsOf (linePoints (linesFrom file at))) ≡ sets (a .xs) 0 (xsOf (linePoints (linesFrom file start)))
+  pub same-ys : sets ys filled (ysOf (linePoints (linesFrom file at))) ≡ sets (a .ys) 0 (ysOf (linePoints (linesFrom file start)))
 
 pub fill-start : (file : List ℕ) (start count : ℕ) (a : Arrays) → AtLines file start count → Filling file start count a start 0 0 (a .starts) (a .xs) (a .ys)
 fill-start file start count a ready =
@@ -143,13 +143,13 @@ module _ (file : List ℕ) (start count : ℕ) (a : Arrays) (at line filled : �
   no-bodies (b ∷ bs) e = absurd (omega arith)
 
   pub fill-end : LinesRead file start a (arrays starts xs ys) at
-  unfolding flat endsFrom
+  unfolding linePoints endsFrom
   fill-end =
       let e : linesFrom file at ≡ [] = no-bodies (bodies 2 (recordsFrom file at)) none-more in
       record {
         starts-are = sym (ap (λ (ls : List (List Point)). sets starts (line + 1) (endsFrom filled ls)) e) ∙ f .same-starts;
-        xs-are = sym (ap (λ (ls : List (List Point)). sets xs filled (xsOf (flat ls))) e) ∙ f .same-xs;
-        ys-are = sym (ap (λ (ls : List (List Point)). sets ys filled (ysOf (flat ls))) e) ∙ f .same-ys;
+        xs-are = sym (ap (λ (ls : List (List Point)). sets xs filled (xsOf (linePoints ls))) e) ∙ f .same-xs;
+        ys-are = sym (ap (λ (ls : List (List Point)). sets ys filled (ysOf (linePoints ls))) e) ∙ f .same-ys;
         end-inside = f .inside;
         end-whole = f .is-whole;
         links-left = links-next (recordsFrom file at) (f .in-order) none-more;
@@ -202,13 +202,13 @@ module _ (file : List ℕ) (start count : ℕ) (a : Arrays) (at line filled : �
       ap (map lineOf) bodies-are
       ∙ ap (λ (l : List Point). l ∷ linesFrom file (nextAt file at)) (line-is file at (f .is-whole) (f .in-order) (f .lengths-fit) some ∙ ap (λ (k : ℕ). points k (bodyAt file at)) (sym points-there) ∙ ap (points n) (sym part-there))
 
-  next-x : (g : Point → ℕ) (now all : List ℕ) → sets now filled (map g (flat (linesFrom file at))) ≡ all
-      → sets (sets now filled (map g (points n part))) (filled + n) (map g (flat (linesFrom file (nextAt file at)))) ≡ all
-  unfolding flat
+  next-x : (g : Point → ℕ) (now all : List ℕ) → sets now filled (map g (linePoints (linesFrom file at))) ≡ all
+      → sets (sets now filled (map g (points n part))) (filled + n) (map g (linePoints (linesFrom file (nextAt file at)))) ≡ all
+  unfolding linePoints
   next-x g now all e =
-      ap (λ (k : ℕ). sets (sets now filled (map g (points n part))) (filled + k) (map g (flat (linesFrom file (nextAt file at))))) (sym (points-long n part))
-      ∙ sym (sets-map g now filled (points n part) (flat (linesFrom file (nextAt file at))))
-      ∙ sym (ap (λ (ls : List (List Point)). sets now filled (map g (flat ls))) lines-are)
+      ap (λ (k : ℕ). sets (sets now filled (map g (points n part))) (filled + k) (map g (linePoints (linesFrom file (nextAt file at))))) (sym (points-long n part))
+      ∙ sym (sets-map g now filled (points n part) (linePoints (linesFrom file (nextAt file at))))
+      ∙ sym (ap (λ (ls : List (List Point)). sets now filled (map g (linePoints ls))) lines-are)
       ∙ e
 
   next-starts : sets (set starts (line + 1) (filled + n)) (line + 1 + 1) (endsFrom (filled + n) (linesFrom file (nextAt file at))) ≡ sets (a .starts) 1 (endsFrom 0 (linesFrom file start))
@@ -239,6 +239,6 @@ module _ (file : List ℕ) (start count : ℕ) (a : Arrays) (at line filled : �
         few-points = omega arith;
         same-links = sym (links-here file at w (f .in-order) (f .lengths-fit) some) ∙ f .same-links;
         same-starts = next-starts;
-        same-xs = ap (λ (now : List ℕ). sets now (filled + n) (xsOf (flat (linesFrom file (nextAt file at))))) ex ∙ next-x (λ (p : Point). p .x) xs (sets (a .xs) 0 (xsOf (flat (linesFrom file start)))) (f .same-xs);
-        same-ys = ap (λ (now : List ℕ). sets now (filled + n) (ysOf (flat (linesFrom file (nextAt file at))))) ey ∙ next-x (λ (p : Point). p .y) ys (sets (a .ys) 0 (ysOf (flat (linesFrom file start)))) (f .same-ys);
+        same-xs = ap (λ (now : List ℕ). sets now (filled + n) (xsOf (linePoints (linesFrom file (nextAt file at))))) ex ∙ next-x (λ (p : Point). p .x) xs (sets (a .xs) 0 (xsOf (linePoints (linesFrom file start)))) (f .same-xs);
+        same-ys = ap (λ (now : List ℕ). sets now (filled + n) (ysOf (linePoints (linesFrom file (nextAt file at))))) ey ∙ next-x (λ (p : Point). p .y) ys (sets (a .ys) 0 (ysOf (linePoints (linesFrom file start)))) (f .same-ys);
       })

@@ -8,8 +8,7 @@ use lib.ListN.{length, drop, replicate, length-append, length-replicate, length-
 use lib.Seq.{sets, sets-eq}
 use Rattle.lists.proofs.Parts.{sets-append}
 use Rattle.drawing_spec.specs.Drawing.{Point}
-use Rattle.drawing_spec.specs.Read.{total}
-use Rattle.file_drawing.specs.Stores.{endsFrom, flat, padded}
+use Rattle.file_drawing.specs.Stores.{endsFrom, padded}
 
 -- ---- laws
 
@@ -28,11 +27,6 @@ module _ {A : Type 0} (f : A → ℕ) where
   -- one run after another
   pub sets-map : (l : List ℕ) (i : ℕ) (a b : List A) → sets l i (map f (a ++ b)) ≡ sets (sets l i (map f a)) (i + length a) (map f b)
   sets-map l i a b = ap (sets l i) (map-append f a b) ∙ sets-append l i (map f a) (map f b) ∙ ap (λ (k : ℕ). sets (sets l i (map f a)) (i + k) (map f b)) (length-map a f)
-
-pub length-flat : (ls : List (List Point)) → length (flat ls) ≡ total (map (λ (l : List Point). length l) ls)
-unfolding flat total
-length-flat [] = refl
-length-flat (l ∷ ls) = length-append l (flat ls) ∙ ap (λ (k : ℕ). length l + k) (length-flat ls)
 
 pub length-ends : (k : ℕ) (ls : List (List Point)) → length (endsFrom k ls) ≡ length ls
 unfolding endsFrom

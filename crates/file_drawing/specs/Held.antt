@@ -7,13 +7,14 @@ use lib.IntN.{pos}
 use lib.ListN.{length}
 use Rattle.limits.specs.Limits.{mostLines, mostPoints, mostLinks}
 use Rattle.drawing_spec.specs.Drawing as drawn
+use Rattle.drawing_spec.specs.Drawing.{linePoints}
 use Rattle.file_records.specs.Body.{settingsFrom, edgeFrom}
 use Rattle.file_records.specs.declared.Point.{Point}
 use Rattle.file_records.specs.declared.MstEdge.{MstEdge}
 use Rattle.file_records.specs.declared.Body.{Body}
 use Rattle.file_records.specs.declared.Body.the-variants as body
 use Rattle.file_drawing.specs.declared.Drawing.{Drawing}
-use Rattle.file_drawing.specs.Stores.{padded, flat, xsOf, ysOf, endsFrom}
+use Rattle.file_drawing.specs.Stores.{padded, xsOf, ysOf, endsFrom}
 
 abbrev noPoint : Point
 noPoint = record { x = fin false 0 (pos 0); y = fin false 0 (pos 0) }
@@ -44,9 +45,9 @@ drawingHeld d = record {
   settings = settingsFrom (d .settings);
   lines = length (d .lines);
   starts = padded (mostLines + 1) 0 (0 ∷ endsFrom 0 (d .lines));
-  points = length (flat (d .lines));
-  xs = padded mostPoints 0 (xsOf (flat (d .lines)));
-  ys = padded mostPoints 0 (ysOf (flat (d .lines)));
+  points = length (linePoints (d .lines));
+  xs = padded mostPoints 0 (xsOf (linePoints (d .lines)));
+  ys = padded mostPoints 0 (ysOf (linePoints (d .lines)));
   «link_count» = length (d .links);
   links = padded mostLinks noEdge (map edgeFrom (d .links));
 }

@@ -6,12 +6,12 @@ use mathlib.Core.Bool.{true, false}
 use lib.ListN.{length}
 use lib.Seq.{sets}
 use Rattle.limits.specs.Limits.{mostLines, mostPoints}
-use Rattle.drawing_spec.specs.Drawing.{Point}
+use Rattle.drawing_spec.specs.Drawing.{Point, linePoints}
 use Rattle.drawing_spec.specs.Read.{lineOf, bodies, linesThenLinks, lengthsFit}
 use Rattle.file_records.specs.Walk.{recordsFrom, cutFrom}
 use Rattle.file_checks.specs.Tally.{pointsIn}
 use Rattle.file_checks.specs.Kinds.{allLinks}
-use Rattle.file_drawing.specs.Stores.{flat, xsOf, ysOf, endsFrom}
+use Rattle.file_drawing.specs.Stores.{xsOf, ysOf, endsFrom}
 
 -- ---- the lines from a place on
 
@@ -40,8 +40,8 @@ arrays starts xs ys = record { starts = starts; xs = xs; ys = ys }
 -- the lines in the arrays, with what was there behind them, and the place where the links start
 pub record LinesRead (file : List ℕ) (start : ℕ) (a b : Arrays) (end : ℕ) : Type 0 where
   pub starts-are : b .starts ≡ sets (a .starts) 1 (endsFrom 0 (linesFrom file start))
-  pub xs-are : b .xs ≡ sets (a .xs) 0 (xsOf (flat (linesFrom file start)))
-  pub ys-are : b .ys ≡ sets (a .ys) 0 (ysOf (flat (linesFrom file start)))
+  pub xs-are : b .xs ≡ sets (a .xs) 0 (xsOf (linePoints (linesFrom file start)))
+  pub ys-are : b .ys ≡ sets (a .ys) 0 (ysOf (linePoints (linesFrom file start)))
   pub end-inside : end ≤ length file
   pub end-whole : cutFrom file end ≡ false
   pub links-left : allLinks (recordsFrom file end) ≡ true

@@ -8,11 +8,6 @@ use Rattle.drawing_spec.specs.Drawing.{Point}
 abbrev pub padded : {A : Type 0} → ℕ → A → List A → List A
 padded n z vs = vs ++ replicate (n - length vs) z
 
--- the points of all lines, in order
-unfoldable pub flat : List (List Point) → List Point
-flat [] = []
-flat (l ∷ ls) = l ++ flat ls
-
 -- the x, and the y, of points
 abbrev pub xsOf : List Point → List ℕ
 xsOf ps = map (λ (p : Point). p .x) ps

@@ -6,7 +6,7 @@ use native.Mathlib.Omega.{arith}
 use lib.ListN.{length, getD, replicate}
 use mathlib.Core.Bool.{true}
 use Rattle.limits.specs.Limits.{mostLines, mostPoints, mostSplits}
-use Rattle.drawing_spec.specs.Drawing.{Point, Link, Drawing}
+use Rattle.drawing_spec.specs.Drawing.{Point, Link, Drawing, linePoints}
 use Rattle.lists.specs.Members.{All}
 use Rattle.lists.proofs.Members.{all-imp}
 use Rattle.drawing_spec.specs.OnGrid.{OnGrid, AtEnds}
@@ -19,7 +19,7 @@ use Rattle.graph_segment_ends.proofs.Ends.{Below}
 use Rattle.graph_segment_ends.proofs.Splits.{endsOf}
 use Rattle.graph_nodes.specs.Table.{noNodes}
 use Rattle.graph_adjacency.specs.Lists.{noEdges}
-use Rattle.file_drawing.specs.Stores.{flat, xsOf, ysOf, endsFrom}
+use Rattle.file_drawing.specs.Stores.{xsOf, ysOf, endsFrom}
 use Rattle.graph_moves.specs.Moves.{Move, along}
 use Rattle.graph_moves.proofs.Moves.{endOf, noGraph, linesMoves, linkMoves, movesOf}
 use Rattle.graph_moves.proofs.Built.{uses-of, stands-of, build-along}
@@ -76,7 +76,7 @@ module _ (d : Drawing) (c : Counts d) (fit : linksFit d ≡ true) where
   lines-are =
       let ls = d .lines in
       lines-same (d .links) (filingIn d) (pointsOf ls .xs) (pointsOf ls .ys) (startsOf ls) ls chains ls 0 0
-      (replicate ((mostLines + 1) - length (0 ∷ endsFrom 0 ls)) 0) (replicate (mostPoints - length (xsOf (flat ls))) 0) (replicate (mostPoints - length (ysOf (flat ls))) 0) refl refl refl refl
+      (replicate ((mostLines + 1) - length (0 ∷ endsFrom 0 ls)) 0) (replicate (mostPoints - length (xsOf (linePoints ls))) 0) (replicate (mostPoints - length (ysOf (linePoints ls))) 0) refl refl refl refl
 
   links-are : linksIn (filingIn d .ends) (length (d .links)) 0 ≡ linkMoves (d .links)
   links-are =

@@ -5,7 +5,8 @@ use mathlib.Core.List.{List, [], _∷_, _++_, map}
 use Prim.Native.Nat.{ℕ, suc, _+_, _-_, _*_, _≤_, _<_, suc-le-suc}
 use native.Mathlib.Omega.{arith}
 use lib.ListN.{length, length-append}
-use Rattle.drawing_spec.specs.Drawing.{Point, End, Link, Drawing}
+use Rattle.drawing_spec.specs.Drawing.{Point, End, Link, Drawing, linePoints}
+use Rattle.drawing_spec.proofs.Drawing.{length-line-points}
 use Rattle.lists.specs.Members.{In, All}
 use Rattle.lists.proofs.Members.{all-in, in-all, in-left, in-right}
 use Rattle.drawing_spec.specs.Read.{total, recordsOf, drawingOf, readConditions}
@@ -68,10 +69,6 @@ apart-places (p ∷ ps) h = (
 
 -- ---- the points of the lines and of the ends of the links
 
-unfoldable pub linePoints : List (List Point) → List Point
-linePoints [] = []
-linePoints (l ∷ ls) = l ++ linePoints ls
-
 abbrev pub drawnPoints : Drawing → List Point
 drawnPoints d = linePoints (d .lines) ++ linkUses (d .links)
 
@@ -79,11 +76,6 @@ ends-length : (ks : List Link) → length (linkUses ks) ≡ 2 * length ks
 unfolding linkUses
 ends-length [] = refl
 ends-length (k ∷ ks) = omega (arith, ends-length ks)
-
-lines-length : (ls : List (List Point)) → length (linePoints ls) ≡ total (map (λ (l : List Point). length l) ls)
-unfolding linePoints total
-lines-length [] = refl
-lines-length (l ∷ ls) = omega (arith, length-append l (linePoints ls), lines-length ls)
 
 module _ (ps : List Point) where
   lines-in : (ls : List (List Point)) → ((p : Point) → In p (linePoints ls) → In p ps) → All (All (λ (p : Point). In p ps)) ls
@@ -111,7 +103,7 @@ nodes-few d =
       arith,
       apart-few ns (drawnPoints d) (apart-places ns (distinct ns (built-numbered d))) (all-in (λ (p : Point). In p (drawnPoints d)) ns (nodes-in d)),
       length-append (linePoints (d .lines)) (linkUses (d .links)),
-      lines-length (d .lines),
+      length-line-points (d .lines),
       ends-length (d .links),
     )
 

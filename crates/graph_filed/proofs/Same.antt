@@ -8,13 +8,13 @@ use native.Mathlib.Numerals.{add-one}
 use native.Mathlib.Omega.{arith}
 use lib.ListN.{length, getD, drop, length-drop}
 use borrow.Author.Tests.{lt-ltb, le-ltb}
-use Rattle.drawing_spec.specs.Drawing.{Point, Link}
+use Rattle.drawing_spec.specs.Drawing.{Point, Link, linePoints}
 use Rattle.lists.proofs.Parts.{at-front, behind-front}
 use Rattle.graph_spec.specs.Chain.{chain}
 use Rattle.graph_splits.specs.Next.{at}
 use Rattle.graph_splits.specs.Points.{Points, points, pointIn}
 use Rattle.graph_segment_ends.proofs.Splits.{endsOf}
-use Rattle.file_drawing.specs.Stores.{flat, xsOf, ysOf, endsFrom}
+use Rattle.file_drawing.specs.Stores.{xsOf, ysOf, endsFrom}
 use Rattle.file_drawing.specs.Back.{pointsBack}
 use Rattle.file_drawing.proofs.Back.{points-back, this-line, other-lines}
 use Rattle.graph_moves.specs.Moves.{Move, start, on, drawAll, lineMoves}
@@ -71,7 +71,7 @@ module _ (ks : List Link) (f : Filing) (xs ys starts : List ℕ) (all : List (Li
   own-first l [] ls = refl
   own-first l (a ∷ ps) ls = refl
 
-  pub lines-same : (ls : List (List Point)) (l k : ℕ) (q r s : List ℕ) → drop l all ≡ ls → drop l starts ≡ k ∷ (endsFrom k ls ++ q) → drop k xs ≡ xsOf (flat ls) ++ r → drop k ys ≡ ysOf (flat ls) ++ s
+  pub lines-same : (ls : List (List Point)) (l k : ℕ) (q r s : List ℕ) → drop l all ≡ ls → drop l starts ≡ k ∷ (endsFrom k ls ++ q) → drop k xs ≡ xsOf (linePoints ls) ++ r → drop k ys ≡ ysOf (linePoints ls) ++ s
       → linesIn f (points xs ys) starts (length ls) l ≡ linesMoves ks l ls
   unfolding linesIn linesMoves endsFrom
   lines-same [] l k q r s ea es ex ey = refl
@@ -84,7 +84,7 @@ module _ (ks : List Link) (f : Filing) (xs ys starts : List ℕ) (all : List (Li
       let rest : drop (l + 1) all ≡ ls = ap (λ (j : ℕ). drop j all) (add-one l) ∙ behind-front all l line [] ls ea in
       ap (λ (m : ℕ). lineIn f (points xs ys) m (getD starts (l + 1) 0) ++ linesIn f (points xs ys) starts (length ls) (l + 1)) here
       ∙ ap (λ (ms : List Move). ms ++ linesIn f (points xs ys) starts (length ls) (l + 1))
-      (one-line l k (getD starts (l + 1) 0) line (xsOf (flat ls) ++ r) (ysOf (flat ls) ++ s) (at-front all l line [] ls ea) inside here there (this-line (λ (p : Point). p .x) line ls k xs r ex) (this-line (λ (p : Point). p .y) line ls k ys s ey))
+      (one-line l k (getD starts (l + 1) 0) line (xsOf (linePoints ls) ++ r) (ysOf (linePoints ls) ++ s) (at-front all l line [] ls ea) inside here there (this-line (λ (p : Point). p .x) line ls k xs r ex) (this-line (λ (p : Point). p .y) line ls k ys s ey))
       ∙ ap (λ (ms : List Move). ownMoves ks l line ++ ms)
       (lines-same ls (l + 1) n q r s rest next (other-lines (λ (p : Point). p .x) line ls k xs r ex) (other-lines (λ (p : Point). p .y) line ls k ys s ey)
       ∙ ap (λ (m : ℕ). linesMoves ks m ls) (add-one l))

@@ -9,7 +9,7 @@ use lib.ListN.{length, getD, replicate, List·getD-eq-default}
 use lib.Dec.{eqb, ltb, leb}
 use borrow.Author.Tests.{ltb-true, leb-true, eq-eqb, ne-eqb, eqb-true, eqb-false}
 use Rattle.limits.specs.Limits.{mostLines, mostPoints}
-use Rattle.drawing_spec.specs.Drawing.{Point, End, Link}
+use Rattle.drawing_spec.specs.Drawing.{Point, End, Link, linePoints}
 use Rattle.drawing_spec.proofs.Same.{both}
 use Rattle.lists.specs.Members.{All}
 use Rattle.lists.proofs.Elements.{getD-same}
@@ -21,7 +21,7 @@ use Rattle.graph_segment_ends.proofs.Splits.{endsOf}
 use Rattle.file_records.specs.declared.MstEdge.{MstEdge}
 use Rattle.file_records.specs.Body.{edgeFrom}
 use Rattle.file_drawing.specs.Held.{pastEnd}
-use Rattle.file_drawing.specs.Stores.{padded, flat, xsOf, ysOf, endsFrom}
+use Rattle.file_drawing.specs.Stores.{padded, xsOf, ysOf, endsFrom}
 use Rattle.graph_splits.specs.Points.{Points, points}
 use Rattle.graph_lines.specs.All.{StartsInside}
 use Rattle.graph_filing.specs.Stored.{EndFits, LinkFits, LinksFit}
@@ -36,7 +36,7 @@ abbrev pub startsOf : List (List Point) → List ℕ
 startsOf ls = padded (mostLines + 1) 0 (0 ∷ endsFrom 0 ls)
 
 abbrev pub pointsOf : List (List Point) → Points
-pointsOf ls = points (padded mostPoints 0 (xsOf (flat ls))) (padded mostPoints 0 (ysOf (flat ls)))
+pointsOf ls = points (padded mostPoints 0 (xsOf (linePoints ls))) (padded mostPoints 0 (ysOf (linePoints ls)))
 
 -- ---- starts
 

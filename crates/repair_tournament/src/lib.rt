@@ -53,8 +53,8 @@ pub fn store(tree: &mut [f64; 2 * MOST_NODES], n: usize, v: usize, x: f64)
     }
 }
 
-// Which value is the least; the one with the lowest place where several are.
-pub fn least(tree: &[f64; 2 * MOST_NODES], n: usize) -> usize
+// Which value is the least; any of them where several are.
+fn least(tree: &[f64; 2 * MOST_NODES], n: usize) -> usize
     requires { ⌜ (0 < n) × (n ≤ mostNodes) × Tree n (now tree) ⌝ }
     ensures { λ r. ⌜ (r < n) × (value n (now (tree .entry)) r ≡ at (now (tree .entry)) 1) ⌝ }
 {
