@@ -1,4 +1,5 @@
 -- Laws of the definitions in specs/.
+pub mod Ascending
 pub mod Buffer
 pub mod Next
 pub mod Sorted
