@@ -1,0 +1,5 @@
+-- Laws of the definitions in specs/.
+pub mod Answers
+pub mod Points
+pub mod Put
+pub mod Text

@@ -1,0 +1,3 @@
+-- What the program `plan` prints.
+pub mod Text
+pub mod Put

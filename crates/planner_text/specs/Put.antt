@@ -1,0 +1,36 @@
+-- Bytes put into a text from a place on.
+use Prim.Native.Nat.{ℕ, _+_, _*_, _≤_}
+use mathlib.Core.Path.{_≡_}
+use mathlib.Core.List.{List}
+use lib.ListN.{length, drop}
+use lib.Ieee.{binary64}
+use lib.Seq.{sets}
+use Rattle.grid.specs.Grid.{readPlace}
+use Rattle.drawing_spec.specs.Bytes.{number}
+use Rattle.drawing_spec.specs.Drawing.{Point}
+use Rattle.drawing_spec.specs.Read.{placeAt}
+use Rattle.sums.specs.Key.{Nonneg}
+use Rattle.planner_graph.specs.declared.Answer.{Answer}
+use Rattle.planner_graph.specs.declared.Answer.the-variants.{Refused, Planned}
+
+-- The text has the bytes from `at` on, and what it had elsewhere; `end` is the place behind them.
+pub record Put (before : List ℕ) (at : ℕ) (bytes after : List ℕ) (end : ℕ) : Type 0 where
+  pub is : after ≡ sets before at bytes
+  pub ends : end ≡ at + length bytes
+
+-- the point in the 16 bytes from `from` on
+abbrev pub pointAt : List ℕ → ℕ → Point
+pointAt output from = record { x = placeAt (readPlace (number 8 (drop from output))); y = placeAt (readPlace (number 8 (drop (from + 8) output))) }
+
+-- room for the longest text: at most 83 bytes for the first line, 22 for each point
+abbrev pub textRoom : ℕ
+textRoom = 88200
+
+-- the points of the longest line
+abbrev pub mostPoints : ℕ
+mostPoints = 4001
+
+-- A retrace has bits to print, and the output holds the record's points, no more than the longest line has.
+abbrev pub Printable : Answer → List ℕ → Type 0
+Printable (Refused k) output = Unit
+Printable (Planned x before after points) output = Nonneg binary64 x × (points ≤ mostPoints) × (6 + 16 * points ≤ length output)
