@@ -38,12 +38,8 @@ refusedAs n = record { verdict = Refused n; drawing = drawingHeld noDrawing }
 
 -- ---- the first of checks 1 to 7
 
-abbrev pub numberOf : refusal.Verdict → ℕ
-numberOf (refusal.refused n) = n
-numberOf refusal.accepted = 0
-
 unfoldable pub firstSeven : List ℕ → ℕ
-firstSeven file = numberOf (refusal.verdict (take 7 (readConditions file)))
+firstSeven file = refusal.refusalOf (refusal.verdict (take 7 (readConditions file)))
 
 -- ---- a file that none of them refuses
 
