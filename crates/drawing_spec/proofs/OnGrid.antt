@@ -1,4 +1,4 @@
--- Laws of specs/OnGrid.
+-- Laws of specs/OnGrid: every point of a drawing lies on the grid, whatever the file.
 use mathlib.Core.Path.{_≡_, refl, ap}
 use mathlib.Core.List.{List}
 use mathlib.Core.Bool.{Bool, true, false, true≢false, cond}

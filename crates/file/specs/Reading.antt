@@ -1,4 +1,4 @@
--- What the reader answers to a file: document 01's verdict, and the drawing in flat arrays. Assumes nothing.
+-- What the reader answers to a file: document 01's verdict, and the drawing in flat arrays.
 use Prim.Native.Nat.{ℕ, _≤_}
 use mathlib.Core.Path.{_≡_}
 use mathlib.Core.List.{List, []}

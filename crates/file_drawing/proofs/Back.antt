@@ -1,4 +1,4 @@
--- Laws of specs/Back.
+-- Laws of specs/Back: nothing is lost in the arrays, so an accepted file's arrays say its whole drawing. Assumes nothing.
 use Prim.Native.Nat.{ℕ, suc, _+_, _-_}
 use native.Mathlib.Omega.{arith}
 use mathlib.Core.Path.{_≡_, refl, sym, ap, _∙_}

@@ -1,4 +1,4 @@
--- Check 8, on the drawing's arrays. Assumes nothing.
+-- Check 8, on the drawing's arrays.
 use Prim.Native.Nat.{ℕ, zero, suc, _+_, _-_}
 use mathlib.Core.List.{List}
 use mathlib.Core.Bool.{Bool, true, _&&_}

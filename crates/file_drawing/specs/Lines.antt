@@ -1,4 +1,4 @@
--- The lines of a file, read one after another into flat arrays. Assumes nothing.
+-- The lines of a file, read one after another into flat arrays.
 use Prim.Native.Nat.{ℕ, _≤_}
 use mathlib.Core.Path.{_≡_}
 use mathlib.Core.List.{List, map}

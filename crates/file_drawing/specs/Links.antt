@@ -1,4 +1,4 @@
--- The links of a file, read one after another into an array. Assumes nothing.
+-- The links of a file, read one after another into an array.
 use Prim.Native.Nat.{ℕ, _≤_}
 use mathlib.Core.Path.{_≡_}
 use mathlib.Core.List.{List, map}

@@ -81,8 +81,8 @@ fn fill_points(
     }
 }
 
-// Puts the lines of a file, of which there are `count`, from the place of the first on, into the arrays. The answer is
-// the place of the first link.
+// Puts the lines of a file, of which there are `count`, from the place of the first on, into the arrays: `starts` from
+// its index 1 on, since `starts[0]` is 0 already. The answer is the place of the first link.
 pub fn fill_lines(
     file: &[u8],
     start: usize,

@@ -1,4 +1,4 @@
--- Laws of specs/Along.
+-- Laws of specs/Along: what the code makes of the flat lists is the graph along the moves. Assumes nothing.
 use mathlib.Core.Path.{_≡_, refl, subst}
 use mathlib.Core.List.{List, [], _∷_, _++_, map-append}
 use native.Mathlib.Omega.{arith}

@@ -1,4 +1,4 @@
--- The nodes and edges in flat lists along a list of moves: what the code makes of them is the graph along these moves. Assumes nothing.
+-- The nodes and edges in flat lists along a list of moves, and when such moves can be traced.
 use mathlib.Core.List.{List, [], _∷_}
 use Rattle.drawing_spec.specs.Drawing.{Point}
 use Rattle.lists.specs.Members.{All}

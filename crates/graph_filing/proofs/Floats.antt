@@ -1,4 +1,4 @@
--- Laws of specs/Floats.
+-- Laws of specs/Floats: each place is got back from its coordinate. Assumes nothing.
 use mathlib.Core.Path.{_≡_, sym, ap, subst, _∙_}
 use mathlib.Core.Bool.{Bool, not}
 use Prim.Native.Nat.{ℕ, _^_, _≤_}

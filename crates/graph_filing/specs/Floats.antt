@@ -1,4 +1,4 @@
--- The place of a coordinate that is a float: each place is got back from its coordinate. Assumes nothing.
+-- Floats that are coordinates of the grid.
 use mathlib.Core.Path.{_≡_}
 use Prim.Native.Nat.{ℕ, _*_, _≤_}
 use lib.Ieee.{Float}

@@ -1,4 +1,4 @@
--- The ends of links filed by segment in flat lists, with their places. Assumes nothing.
+-- The ends of links filed by segment in flat lists, with their places.
 use mathlib.Core.List.{List}
 use Prim.Native.Nat.{ℕ, zero, suc, _+_, _*_, _<_}
 use lib.ListN.{getD, set}

@@ -1,4 +1,4 @@
--- The moves of lines whose points stand in flat lists, a segment after the other. Assumes nothing.
+-- The moves of lines whose points stand in flat lists, a segment after the other.
 use mathlib.Core.Bool.{true, false}
 use mathlib.Core.List.{List, [], _∷_}
 use Prim.Native.Nat.{ℕ, _+_, _-_}

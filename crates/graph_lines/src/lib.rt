@@ -17,7 +17,8 @@ use limits::MOST_NODES;
 use limits::MOST_POINTS;
 use limits::MOST_SPLITS;
 
-// All lines, in their order: line i's points are those from starts[i] to starts[i + 1].
+// All lines, in their order: line i's points are those from starts[i] to starts[i + 1]. What `keys`, `sx` and `sy` hold
+// afterwards is left open: they are lent for the split points of one segment at a time.
 pub fn trace_lines(
     xs: &mut [u32; MOST_NODES],
     ys: &mut [u32; MOST_NODES],

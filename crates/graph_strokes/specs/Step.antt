@@ -1,4 +1,4 @@
--- A step from one point of a drawing to the next: the next point's node, and the edge of the stroke to it. Assumes nothing.
+-- A step from one point of a drawing to the next: the next point's node, and the edge of the stroke to it.
 use mathlib.Core.Path.{_≡_}
 use mathlib.Core.List.{List}
 use Prim.Native.Nat.{ℕ, _≤_, _<_}

@@ -1,4 +1,4 @@
--- A stroke's edge pushed onto the edges, unless it leads from a point to itself. Assumes nothing.
+-- A stroke's edge pushed onto the edges, unless it leads from a point to itself.
 use mathlib.Core.Bool.{cond}
 use Prim.Native.Nat.{ℕ, _+_}
 use Rattle.length.specs.Root.{lengthOf}

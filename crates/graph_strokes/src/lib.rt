@@ -49,7 +49,8 @@ pub struct Trail {
     pub node: usize,
 }
 
-// To q, with nothing drawn: q's node, which is added where it is new.
+// To q, with nothing drawn: q's node, which is added where it is new. Of the answer's three parts, `nodes` counts the node
+// in if it is new, `edges` is what it was, and `node` is the number of q's node.
 pub fn begin(
     xs: &mut [u32; MOST_NODES],
     ys: &mut [u32; MOST_NODES],

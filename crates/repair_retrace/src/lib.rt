@@ -29,8 +29,8 @@ pub enum Applied {
     Refused(u8),
 }
 
-// The shortest path from s to t, written into `path` as the way back writes it. The search is made in lent arrays, which
-// are then as they were.
+// The shortest path from s to t, written into `path` as the way back writes it: what stands in front of it, and all of
+// `path` on `Missing`, is left open. The search is made in lent arrays, which are then as they were.
 pub fn shortest_path(
     ends: &[u16; ARC_ROOM],
     weights: &[f64; EDGE_ROOM],
