@@ -30,7 +30,7 @@ enum planner_refusal {
     PLANNER_UNLINKED = 9,             /* some part can't be reached from the first point */
     PLANNER_TOO_MANY_ODD = 10,        /* optimal pairing, and more than 20 odd points */
     PLANNER_TABLES_TOO_SMALL = 11,    /* optimal pairing, and tables too short for the odd points: see below */
-    PLANNER_NO_WAY_BACK = 12,         /* not known to happen */
+    PLANNER_NO_WAY_BACK = 12,         /* proved never to happen */
     PLANNER_TOO_MANY_STEPS = 13,      /* with its retraces the drawing has more than 4,000 strokes */
     PLANNER_OUTPUT_TOO_SMALL = 14     /* less than 6 bytes and 16 for each point of the line */
 };

@@ -52,7 +52,7 @@ CONDITIONS = {
          "Optimal pairing with n odd points, 4 to 20, needs 2^n + n*n entries in one table and 2^n in the other; the program `plan` "
          "lends tables for 12. Lend larger tables, choose greedy pairing, or join loose ends."),
     12: ("no way back was found",
-         "No drawing is known that gives this: please report it."),
+         "It is proved that no drawing gives this: please report it."),
     13: (f"the line would have more than {MOST_EDGES:,} steps",
          "Too much of the drawing is gone over twice: join loose ends, link them where they are near one another, or use "
          "fewer points."),

@@ -1,4 +1,4 @@
--- Laws of specs/OnGrid.
+-- Laws of specs/OnGrid: every point of a drawing lies on the grid, whatever the file.
 use mathlib.Core.Path.{_≡_, refl, ap}
 use mathlib.Core.List.{List}
 use mathlib.Core.Bool.{Bool, true, false, true≢false, cond}
@@ -14,7 +14,7 @@ use Rattle.grid.specs.declared.Place.the-variants.{On, Off}
 use Rattle.drawing_spec.specs.Bytes.{number}
 use Rattle.lists.specs.Members.{All}
 use Rattle.lists.proofs.Members.{all-map, in-all}
-use Rattle.drawing_spec.specs.Read.{Record, placeAt, points, point, lineOf, linkOf, bodies, drawingOf}
+use Rattle.drawing_spec.specs.Read.{Record, placeAt, points, point, pointsOfLine, linkOf, bodies, drawingOf}
 use Rattle.drawing_spec.specs.OnGrid.{AtEnds, OnGrid}
 
 -- ---- whatever the file, a place is never past the grid
@@ -51,8 +51,8 @@ unfolding point
 point-on bs = points-on 1 bs .0
 
 pub lines-on : (rs : List Record) → All (All OnGrid) (drawingOf rs .lines)
-unfolding drawingOf lineOf
-lines-on rs = all-map lineOf (All OnGrid) (bodies 2 rs) (in-all (λ (b : List ℕ). All OnGrid (lineOf b)) (bodies 2 rs) (λ b i. points-on (length b / 16) b))
+unfolding drawingOf pointsOfLine
+lines-on rs = all-map pointsOfLine (All OnGrid) (bodies 2 rs) (in-all (λ (b : List ℕ). All OnGrid (pointsOfLine b)) (bodies 2 rs) (λ b i. points-on (length b / 16) b))
 
 pub links-on : (rs : List Record) → All (AtEnds OnGrid) (drawingOf rs .links)
 unfolding drawingOf linkOf

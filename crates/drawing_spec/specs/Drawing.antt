@@ -8,6 +8,10 @@ pub record Point : Type 0 where
   pub x : ℕ
   pub y : ℕ
 
+-- what a list of points gives past its end
+abbrev pub noPoint : Point
+noPoint = record { x = 0; y = 0 }
+
 -- two points are the same when both coordinates are equal
 abbrev pub same : Point → Point → Bool
 same p q = eqb (p .x) (q .x) && eqb (p .y) (q .y)

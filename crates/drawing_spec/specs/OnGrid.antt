@@ -1,4 +1,4 @@
--- Every point of a drawing lies on the grid, whatever the file.
+-- What it is for a point to lie on the grid, and what holds of both points of a link.
 use Prim.Native.Nat.{_*_, _≤_}
 use Rattle.grid.specs.Grid.{origin}
 use Rattle.drawing_spec.specs.Drawing.{Point, Link}

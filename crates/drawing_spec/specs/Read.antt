@@ -11,7 +11,7 @@ use Rattle.limits.specs.Limits.{mostBytes, mostSide, mostPairing, mostFlags, mo
 use Rattle.limits.specs.Limits.{refusedBytes, refusedCut, refusedKinds, refusedLengths, refusedSettings, refusedCounts, refusedCoordinates, refusedLinks}
 use Rattle.drawing_spec.specs.Bytes.{number}
 use Rattle.drawing_spec.specs.Refusal.{Condition, condition}
-use Rattle.drawing_spec.specs.Drawing.{Point, Settings, End, Link, Drawing}
+use Rattle.drawing_spec.specs.Drawing.{Point, noPoint, Settings, End, Link, Drawing}
 
 -- ---- records: a 4-byte body length, a 2-byte kind, the body
 
@@ -65,20 +65,17 @@ points zero bs = []
 points (suc n) bs = record { x = placeAt (readPlace (number 8 bs)); y = placeAt (readPlace (number 8 (drop 8 bs))) } ∷ points n (drop 16 bs)
 
 -- the point in the first 16 bytes
-abbrev origin : Point
-origin = record { x = 0; y = 0 }
-
 unfoldable pub point : List ℕ → Point
 unfolding points
-point bs = getD (points 1 bs) 0 origin
+point bs = getD (points 1 bs) 0 noPoint
 
 unfoldable pub settingsOf : List ℕ → Settings
 unfolding number
 settingsOf bs = record { width = number 4 bs; height = number 4 (drop 4 bs); pairing = number 1 (drop 8 bs); flags = number 1 (drop 9 bs) }
 
-unfoldable pub lineOf : List ℕ → List Point
+unfoldable pub pointsOfLine : List ℕ → List Point
 unfolding points
-lineOf bs = points (length bs / 16) bs
+pointsOfLine bs = points (length bs / 16) bs
 
 unfoldable pub linkOf : List ℕ → Link
 unfolding number point
@@ -93,10 +90,10 @@ bodies k [] = []
 bodies k (r ∷ rs) = elim (eqb (r .kind) k) [ true ↦ r .body ∷ bodies k rs | false ↦ bodies k rs ]
 
 unfoldable pub drawingOf : List Record → Drawing
-unfolding bodies settingsOf lineOf linkOf
+unfolding bodies settingsOf pointsOfLine linkOf
 drawingOf rs = record {
   settings = settingsOf (getD (bodies 1 rs) 0 []);
-  lines = map lineOf (bodies 2 rs);
+  lines = map pointsOfLine (bodies 2 rs);
   links = map linkOf (bodies 3 rs);
 }
 

@@ -13,6 +13,11 @@ pub data Verdict : Type 0 where
   refused : ℕ → Verdict
   accepted : Verdict
 
+-- the number of the first condition that holds, and 0 where none does
+abbrev pub refusalOf : Verdict → ℕ
+refusalOf (refused n) = n
+refusalOf accepted = 0
+
 unfoldable pub verdict : List Condition → Verdict
 verdict [] = accepted
 verdict (condition n true ∷ cs) = refused n

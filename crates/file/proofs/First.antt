@@ -10,7 +10,7 @@ use lib.Dec.{leb}
 use borrow.Author.Tests.{le-leb, leb-true, leb-false}
 use Rattle.limits.specs.Limits.{mostLines, mostPoints, mostLinks}
 use Rattle.drawing_spec.specs.Drawing.{Point}
-use Rattle.drawing_spec.specs.Read.{Record, settingsOf, lineOf, linkOf, bodies, total, linesThenLinks, kindsFit, lengthsFit, countsFit, recordsOf, isCut, drawingOf}
+use Rattle.drawing_spec.specs.Read.{Record, settingsOf, pointsOfLine, linkOf, bodies, total, linesThenLinks, kindsFit, lengthsFit, countsFit, recordsOf, isCut, drawingOf}
 use Rattle.file_records.specs.Walk.{sizeAt, kindAt, bodyAt, nextAt, recordsFrom}
 use Rattle.file_records.proofs.Walk.{recordAt, none-left, room, still-whole, record-here}
 use Rattle.file_records.specs.Body.{settingsFrom, recordRead}
@@ -83,15 +83,15 @@ module _ (file : List ℕ) (w : isCut file ≡ false) (k : kindsFit (recordsOf f
 -- ---- the counts of the drawing are those of the tally
 
 -- a line has as many points as its body has room for
-pub points-in : (bs : List (List ℕ)) → total (map (λ (l : List Point). length l) (map lineOf bs)) ≡ pointsIn bs
-unfolding total lineOf
+pub points-in : (bs : List (List ℕ)) → total (map (λ (l : List Point). length l) (map pointsOfLine bs)) ≡ pointsIn bs
+unfolding total pointsOfLine
 points-in [] = refl
 points-in (b ∷ bs) = rw (points-long (length b / 16) b, points-in bs)
 
 module _ (rs : List Record) (t : Tally) (e : t ≡ tallied rs noTally) where
   pub lines-tally : t .lines ≡ length (drawingOf rs .lines)
   unfolding drawingOf
-  lines-tally = ap (λ (t : Tally). t .lines) e ∙ lines-counted rs noTally ∙ zero-add (length (bodies 2 rs)) ∙ sym (length-map (bodies 2 rs) lineOf)
+  lines-tally = ap (λ (t : Tally). t .lines) e ∙ lines-counted rs noTally ∙ zero-add (length (bodies 2 rs)) ∙ sym (length-map (bodies 2 rs) pointsOfLine)
 
   pub points-tally : t .points ≡ total (map (λ (l : List Point). length l) (drawingOf rs .lines))
   unfolding drawingOf

@@ -15,7 +15,7 @@ use Rattle.file.specs.declared.Verdict.{Verdict}
 use Rattle.file.specs.declared.Verdict.the-variants.{Refused, Accepted}
 use Rattle.file_drawing.specs.declared.Drawing.{Drawing}
 use Rattle.file.specs.declared.Reading.{Reading}
-use Rattle.file.specs.Reading.{Passed, drawingIf, firstSeven, numberOf, readingOf, refusedAs, verdictFrom}
+use Rattle.file.specs.Reading.{Passed, drawingIf, firstSeven, readingOf, refusedAs, verdictFrom}
 use Rattle.file_drawing.specs.Held.{drawingHeld}
 use Rattle.file_drawing.specs.Back.{drawingFrom}
 use Rattle.file_drawing.proofs.Back.{drawing-back}
@@ -73,50 +73,50 @@ sevenFor file cs =
     let rs = recordsOf file in
     seven (ltb mostBytes (length file)) (isCut file) (not (kindsFit rs)) (not (lengthsFit rs)) (not (settingsFit (drawingOf rs .settings))) (not (countsFit (drawingOf rs))) (not (coordinatesFit rs)) cs
 
-first-is : (file : List ℕ) → firstSeven file ≡ numberOf (refusal.verdict (sevenFor file []))
+first-is : (file : List ℕ) → firstSeven file ≡ refusal.refusalOf (refusal.verdict (sevenFor file []))
 unfolding firstSeven sevenFor seven
-first-is file = ap (λ (cs : List refusal.Condition). numberOf (refusal.verdict (take 7 cs))) (conditions-are file)
+first-is file = ap (λ (cs : List refusal.Condition). refusal.refusalOf (refusal.verdict (take 7 cs))) (conditions-are file)
 
 module _ (file : List ℕ) where
   pub refused-1 : mostBytes < length file → 1 ≡ firstSeven file
   unfolding sevenFor
-  refused-1 h = sym (first-is file ∙ ap numberOf (one _ _ _ _ _ _ _ [] (lt-ltb mostBytes (length file) h)))
+  refused-1 h = sym (first-is file ∙ ap refusal.refusalOf (one _ _ _ _ _ _ _ [] (lt-ltb mostBytes (length file) h)))
 
   module _ (s : length file ≤ mostBytes) where
     pub refused-2 : isCut file ≡ true → 2 ≡ firstSeven file
     unfolding sevenFor
-    refused-2 h = sym (first-is file ∙ ap numberOf (two _ _ _ _ _ _ _ [] (le-ltb mostBytes (length file) s) h))
+    refused-2 h = sym (first-is file ∙ ap refusal.refusalOf (two _ _ _ _ _ _ _ [] (le-ltb mostBytes (length file) s) h))
 
     module _ (w : isCut file ≡ false) where
       pub refused-3 : kindsFit (recordsOf file) ≡ false → 3 ≡ firstSeven file
       unfolding sevenFor
-      refused-3 h = sym (first-is file ∙ ap numberOf (three _ _ _ _ _ _ _ [] (le-ltb mostBytes (length file) s) w (ap not h)))
+      refused-3 h = sym (first-is file ∙ ap refusal.refusalOf (three _ _ _ _ _ _ _ [] (le-ltb mostBytes (length file) s) w (ap not h)))
 
       module _ (k : kindsFit (recordsOf file) ≡ true) where
         pub refused-4 : lengthsFit (recordsOf file) ≡ false → 4 ≡ firstSeven file
         unfolding sevenFor
-        refused-4 h = sym (first-is file ∙ ap numberOf (four _ _ _ _ _ _ _ [] (le-ltb mostBytes (length file) s) w (ap not k) (ap not h)))
+        refused-4 h = sym (first-is file ∙ ap refusal.refusalOf (four _ _ _ _ _ _ _ [] (le-ltb mostBytes (length file) s) w (ap not k) (ap not h)))
 
         module _ (l : lengthsFit (recordsOf file) ≡ true) where
           pub refused-5 : settingsFit (drawingOf (recordsOf file) .settings) ≡ false → 5 ≡ firstSeven file
           unfolding sevenFor
-          refused-5 h = sym (first-is file ∙ ap numberOf (five _ _ _ _ _ _ _ [] (le-ltb mostBytes (length file) s) w (ap not k) (ap not l) (ap not h)))
+          refused-5 h = sym (first-is file ∙ ap refusal.refusalOf (five _ _ _ _ _ _ _ [] (le-ltb mostBytes (length file) s) w (ap not k) (ap not l) (ap not h)))
 
           module _ (t : settingsFit (drawingOf (recordsOf file) .settings) ≡ true) where
             pub refused-6 : countsFit (drawingOf (recordsOf file)) ≡ false → 6 ≡ firstSeven file
             unfolding sevenFor
-            refused-6 h = sym (first-is file ∙ ap numberOf (six _ _ _ _ _ _ _ [] (le-ltb mostBytes (length file) s) w (ap not k) (ap not l) (ap not t) (ap not h)))
+            refused-6 h = sym (first-is file ∙ ap refusal.refusalOf (six _ _ _ _ _ _ _ [] (le-ltb mostBytes (length file) s) w (ap not k) (ap not l) (ap not t) (ap not h)))
 
             module _ (c : countsFit (drawingOf (recordsOf file)) ≡ true) where
               pub refused-7 : coordinatesFit (recordsOf file) ≡ false → 7 ≡ firstSeven file
               unfolding sevenFor
-              refused-7 h = sym (first-is file ∙ ap numberOf (last _ _ _ _ _ _ _ [] (le-ltb mostBytes (length file) s) w (ap not k) (ap not l) (ap not t) (ap not c) (ap not h)))
+              refused-7 h = sym (first-is file ∙ ap refusal.refusalOf (last _ _ _ _ _ _ _ [] (le-ltb mostBytes (length file) s) w (ap not k) (ap not l) (ap not t) (ap not c) (ap not h)))
 
               pub refused-none : coordinatesFit (recordsOf file) ≡ true → 0 ≡ firstSeven file
               unfolding sevenFor refusal.verdict
-              refused-none h = sym (first-is file ∙ ap numberOf (others _ _ _ _ _ _ _ [] (le-ltb mostBytes (length file) s) w (ap not k) (ap not l) (ap not t) (ap not c) (ap not h)))
+              refused-none h = sym (first-is file ∙ ap refusal.refusalOf (others _ _ _ _ _ _ _ [] (le-ltb mostBytes (length file) s) w (ap not k) (ap not l) (ap not t) (ap not c) (ap not h)))
 
-not-first : (n : ℕ) (b : Bool) (cs : List refusal.Condition) → numberOf (refusal.verdict (refusal.condition (suc n) b ∷ cs)) ≡ 0 → (b ≡ false) × (numberOf (refusal.verdict cs) ≡ 0)
+not-first : (n : ℕ) (b : Bool) (cs : List refusal.Condition) → refusal.refusalOf (refusal.verdict (refusal.condition (suc n) b ∷ cs)) ≡ 0 → (b ≡ false) × (refusal.refusalOf (refusal.verdict cs) ≡ 0)
 unfolding refusal.verdict
 not-first n true cs h = absurd (omega arith)
 not-first n false cs h = (refl, h)
@@ -143,7 +143,7 @@ passed file h =
 
 -- ---- the whole answer
 
-verdict-of : (xs cs : List refusal.Condition) (n : ℕ) → n ≡ numberOf (refusal.verdict xs) → (n ≡ 0 → ⊥) → refusal.verdict (xs ++ cs) ≡ refusal.refused n
+verdict-of : (xs cs : List refusal.Condition) (n : ℕ) → n ≡ refusal.refusalOf (refusal.verdict xs) → (n ≡ 0 → ⊥) → refusal.verdict (xs ++ cs) ≡ refusal.refused n
 unfolding refusal.verdict
 verdict-of [] cs n e z = absurd (z e)
 verdict-of (refusal.condition m true ∷ xs) cs n e z = ap refusal.refused (sym e)
@@ -185,11 +185,11 @@ abbrev pub numberIn : Verdict → ℕ
 numberIn (Refused n) = n
 numberIn Accepted = 0
 
-pub number-is : (file : List ℕ) → numberIn (readingOf file .verdict) ≡ numberOf (refusal.verdict (readConditions file))
+pub number-is : (file : List ℕ) → numberIn (readingOf file .verdict) ≡ refusal.refusalOf (refusal.verdict (readConditions file))
 unfolding readingOf
 number-is file = go (refusal.verdict (readConditions file))
   where
-    go : (v : refusal.Verdict) → numberIn (verdictFrom v) ≡ numberOf v
+    go : (v : refusal.Verdict) → numberIn (verdictFrom v) ≡ refusal.refusalOf v
     go (refusal.refused n) = refl
     go refusal.accepted = refl
 

@@ -11,14 +11,14 @@ use borrow.Author.Tests.{leb-true}
 use Rattle.limits.specs.Limits.{mostLines, mostPoints, mostLinks}
 use Rattle.drawing_spec.specs.Drawing as drawn
 use Rattle.drawing_spec.specs.Drawing.{linePoints}
-use Rattle.drawing_spec.specs.Read.{Record, lineOf, linkOf, bodies, total, kindsFit, lengthsFit, settingsFit, countsFit, linksFit, recordsOf, isCut, drawingOf}
+use Rattle.drawing_spec.specs.Read.{Record, pointsOfLine, linkOf, bodies, total, kindsFit, lengthsFit, settingsFit, countsFit, linksFit, recordsOf, isCut, drawingOf}
 use Rattle.file_records.specs.Body.{settingsFrom, edgeFrom, recordRead}
 use Rattle.file_records.specs.declared.Settings.{Settings}
 use Rattle.file_records.specs.declared.MstEdge.{MstEdge}
 use Rattle.file_checks.specs.declared.Tally.{Tally}
 use Rattle.file_drawing.specs.declared.Drawing.{Drawing}
 use Rattle.file_checks.specs.Settings.{settingsIn, noSettings}
-use Rattle.file_drawing.specs.Held.{noEdge, drawingHeld}
+use Rattle.file_drawing.specs.Held.{noLink, drawingHeld}
 use Rattle.file_records.specs.Meaning.{settingsOf}
 use Rattle.file_checks.specs.Tally.{tallied, noTally, orderFits}
 use Rattle.file_checks.proofs.TallyLaws.{kinds, lengths}
@@ -28,8 +28,8 @@ use Rattle.drawing_spec.proofs.Drawing.{length-line-points}
 use Rattle.file.proofs.First.{settings-read, bodies-behind, at-lines, lines-tally, points-tally, links-tally, counts-tally, points-in}
 use Rattle.file_checks.proofs.CoordinatesLaws.{and-first, and-second}
 use Rattle.file_drawing.specs.Lines.{Arrays, arrays, AtLines, LinesRead, linesFrom}
-use Rattle.file_drawing.specs.Links.{AtLinks, edgesFrom}
-use Rattle.file_drawing.specs.Fit.{edgesHeld}
+use Rattle.file_drawing.specs.Links.{AtLinks, linksFrom}
+use Rattle.file_drawing.specs.Fit.{linksFitIn}
 use Rattle.file_drawing.proofs.Fit.{links-are}
 use Rattle.file.specs.Reading.{Passed, noDrawing}
 
@@ -84,7 +84,7 @@ module _ (file : List ℕ) (p : Passed file) (t : Tally) (e : t ≡ tallied (rec
   lines-ready =
       let f = few-of (drawingOf (recordsOf file)) (p .few) in
       let n = lines-tally (recordsOf file) t e in
-      at-lines file (p .is-whole) (p .in-order) (p .long) (t .lines) (sym (n ∙ length-map (bodies 2 (recordsOf file)) lineOf)) (rw n (f .0)) (rw (points-in (bodies 2 (recordsOf file))) at (f .1))
+      at-lines file (p .is-whole) (p .in-order) (p .long) (t .lines) (sym (n ∙ length-map (bodies 2 (recordsOf file)) pointsOfLine)) (rw n (f .0)) (rw (points-in (bodies 2 (recordsOf file))) at (f .1))
 
   pub links-ready : (a b : Arrays) (end : ℕ) → LinesRead file 16 a b end → AtLinks file end (t .links)
   unfolding drawingOf
@@ -101,7 +101,7 @@ module _ (file : List ℕ) (p : Passed file) (t : Tally) (e : t ≡ tallied (rec
         few-links = rw n (f .2);
       }
 
-  pub drawing-made : (s : Settings) (r : Arrays) (end : ℕ) (edges : List MstEdge) → s ≡ settingsIn (recordRead file 0 .body) → LinesRead file 16 none r end → edges ≡ sets (replicate mostLinks noEdge) 0 (edgesFrom file end)
+  pub drawing-made : (s : Settings) (r : Arrays) (end : ℕ) (edges : List MstEdge) → s ≡ settingsIn (recordRead file 0 .body) → LinesRead file 16 none r end → edges ≡ sets (replicate mostLinks noLink) 0 (linksFrom file end)
       → _≡_ {A = Drawing} (record { settings = s; lines = t .lines; starts = r .starts; points = t .points; xs = r .xs; ys = r .ys; «link_count» = t .links; links = edges }) (drawingHeld (drawingOf (recordsOf file)))
   unfolding drawingHeld drawingOf
   drawing-made s r end edges i l k =
@@ -109,15 +109,15 @@ module _ (file : List ℕ) (p : Passed file) (t : Tally) (e : t ≡ tallied (rec
       let d = drawingOf rs in
       let f = few-of d (p .few) in
       let w = p .is-whole in
-      let lines-are : linesFrom file 16 ≡ map lineOf (bodies 2 rs) = ap (map lineOf) (sym (bodies-behind file w (p .in-order) (p .long) 2 (λ q. omega arith))) in
-      let links-are : edgesFrom file end ≡ map edgeFrom (map linkOf (bodies 3 rs)) = ap (λ (bs : List (List ℕ)). map edgeFrom (map linkOf bs)) (l .same-links ∙ sym (bodies-behind file w (p .in-order) (p .long) 3 (λ q. omega arith))) in
+      let lines-are : linesFrom file 16 ≡ map pointsOfLine (bodies 2 rs) = ap (map pointsOfLine) (sym (bodies-behind file w (p .in-order) (p .long) 2 (λ q. omega arith))) in
+      let links-are : linksFrom file end ≡ map edgeFrom (map linkOf (bodies 3 rs)) = ap (λ (bs : List (List ℕ)). map edgeFrom (map linkOf bs)) (l .same-links ∙ sym (bodies-behind file w (p .in-order) (p .long) 3 (λ q. omega arith))) in
       let few-e : length (map edgeFrom (map linkOf (bodies 3 rs))) ≤ mostLinks = rw (length-map (map linkOf (bodies 3 rs)) edgeFrom) (f .2) in
-      same-drawing s (settingsFrom (d .settings)) (t .lines) (length (d .lines)) (t .points) (length (linePoints (d .lines))) (t .links) (length (d .links)) (r .starts) (padded (mostLines + 1) 0 (0 ∷ endsFrom 0 (d .lines))) (r .xs) (padded mostPoints 0 (xsOf (linePoints (d .lines)))) (r .ys) (padded mostPoints 0 (ysOf (linePoints (d .lines)))) edges (padded mostLinks noEdge (map edgeFrom (d .links)))
+      same-drawing s (settingsFrom (d .settings)) (t .lines) (length (d .lines)) (t .points) (length (linePoints (d .lines))) (t .links) (length (d .links)) (r .starts) (padded (mostLines + 1) 0 (0 ∷ endsFrom 0 (d .lines))) (r .xs) (padded mostPoints 0 (xsOf (linePoints (d .lines)))) (r .ys) (padded mostPoints 0 (ysOf (linePoints (d .lines)))) edges (padded mostLinks noLink (map edgeFrom (d .links)))
       (i ∙ settings-read file w (p .in-order) (p .long)) (lines-tally rs t e) (points-tally rs t e ∙ sym (length-line-points (d .lines))) (links-tally rs t e)
       (starts-as (linesFrom file 16) (d .lines) (r .starts) (l .starts-are) lines-are (f .0))
       (places-as (λ (p : drawn.Point). p .x) (linesFrom file 16) (d .lines) (r .xs) (l .xs-are) lines-are (f .1))
       (places-as (λ (p : drawn.Point). p .y) (linesFrom file 16) (d .lines) (r .ys) (l .ys-are) lines-are (f .1))
-      (filled-as mostLinks noEdge edges (edgesFrom file end) (map edgeFrom (d .links)) k links-are few-e)
+      (filled-as mostLinks noLink edges (linksFrom file end) (map edgeFrom (d .links)) k links-are few-e)
 
 -- ---- check 8 on it
 
@@ -128,7 +128,7 @@ module _ (file : List ℕ) (p : Passed file) (d : Drawing) (e : d ≡ drawingHel
       let f = few-of (drawingOf (recordsOf file)) (p .few) in
       (rw (ap (λ (d : Drawing). d .lines) e) (f .0), rw (ap (λ (d : Drawing). d .«link_count») e) (f .2))
 
-  pub links-tell : (b v : Bool) → b ≡ edgesHeld (d .starts) (d .lines) (d .links) (d .«link_count») 0 → b ≡ v → linksFit (drawingOf (recordsOf file)) ≡ v
+  pub links-tell : (b v : Bool) → b ≡ linksFitIn (d .starts) (d .lines) (d .links) (d .«link_count») 0 → b ≡ v → linksFit (drawingOf (recordsOf file)) ≡ v
   unfolding drawingHeld
   links-tell b v h i =
       let a = drawingOf (recordsOf file) in
@@ -138,15 +138,15 @@ module _ (file : List ℕ) (p : Passed file) (d : Drawing) (e : d ≡ drawingHel
       let few-e : length (map edgeFrom (a .links)) ≤ mostLinks = rw (length-map (a .links) edgeFrom) (f .2) in
       sym
       (h
-      ∙ ap (λ (d : Drawing). edgesHeld (d .starts) (d .lines) (d .links) (d .«link_count») 0) e
-      ∙ ap (λ (s : List ℕ). edgesHeld s (length (a .lines)) (padded mostLinks noEdge (map edgeFrom (a .links))) (length (a .links)) 0) (sym (sets-padded (mostLines + 1) 0 (0 ∷ endsFrom 0 (a .lines)) (omega arith)))
-      ∙ ap (λ (l : List MstEdge). edgesHeld (sets (replicate (mostLines + 1) 0) 1 (endsFrom 0 (a .lines))) (length (a .lines)) l (length (a .links)) 0) (sym (sets-padded mostLinks noEdge (map edgeFrom (a .links)) few-e))
+      ∙ ap (λ (d : Drawing). linksFitIn (d .starts) (d .lines) (d .links) (d .«link_count») 0) e
+      ∙ ap (λ (s : List ℕ). linksFitIn s (length (a .lines)) (padded mostLinks noLink (map edgeFrom (a .links))) (length (a .links)) 0) (sym (sets-padded (mostLines + 1) 0 (0 ∷ endsFrom 0 (a .lines)) (omega arith)))
+      ∙ ap (λ (l : List MstEdge). linksFitIn (sets (replicate (mostLines + 1) 0) 1 (endsFrom 0 (a .lines))) (length (a .lines)) l (length (a .links)) 0) (sym (sets-padded mostLinks noLink (map edgeFrom (a .links)) few-e))
       ∙ links-are a (f .0) (f .2))
       ∙ i
 
 -- ---- the drawing of a refused file
 
-pub empty-made : (s : Settings) (k : MstEdge) → s ≡ noSettings → k ≡ noEdge
+pub empty-made : (s : Settings) (k : MstEdge) → s ≡ noSettings → k ≡ noLink
     → _≡_ {A = Drawing} (record { settings = s; lines = 0; starts = replicate (mostLines + 1) 0; points = 0; xs = replicate mostPoints 0; ys = replicate mostPoints 0; «link_count» = 0; links = replicate mostLinks k }) (drawingHeld noDrawing)
 unfolding drawingHeld linePoints endsFrom
 empty-made s k es ek = ap (λ (s : Settings). record { settings = s; lines = 0; starts = replicate (mostLines + 1) 0; points = 0; xs = replicate mostPoints 0; ys = replicate mostPoints 0; «link_count» = 0; links = replicate mostLinks k }) es

@@ -1,4 +1,4 @@
--- What the reader answers to a file: document 01's verdict, and the drawing in flat arrays. Assumes nothing.
+-- What the reader answers to a file: document 01's verdict, and the drawing in flat arrays.
 use Prim.Native.Nat.{ℕ, _≤_}
 use mathlib.Core.Path.{_≡_}
 use mathlib.Core.List.{List, []}
@@ -38,12 +38,8 @@ refusedAs n = record { verdict = Refused n; drawing = drawingHeld noDrawing }
 
 -- ---- the first of checks 1 to 7
 
-abbrev pub numberOf : refusal.Verdict → ℕ
-numberOf (refusal.refused n) = n
-numberOf refusal.accepted = 0
-
 unfoldable pub firstSeven : List ℕ → ℕ
-firstSeven file = numberOf (refusal.verdict (take 7 (readConditions file)))
+firstSeven file = refusal.refusalOf (refusal.verdict (take 7 (readConditions file)))
 
 -- ---- a file that none of them refuses
 

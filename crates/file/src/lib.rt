@@ -77,7 +77,7 @@ fn no_drawing() -> Drawing
     ensures { λ r. ⌜ r ≡ drawingHeld noDrawing ⌝ }
 {
     let settings = settings::no_settings();
-    let links = [arrays::no_edge(); MOST_LINKS];
+    let links = [arrays::no_link(); MOST_LINKS];
     Drawing {
         settings,
         lines: 0,
@@ -136,7 +136,7 @@ pub fn read(file: &[u8]) -> Reading
     let drawing = drawing_of(file);
     let starts = drawing.starts;
     let links = drawing.links;
-    let fit = links::edges_fit(&starts, drawing.lines, links, drawing.link_count);
+    let fit = links::links_fit(&starts, drawing.lines, links, drawing.link_count);
     if !fit {
         return refused(REFUSED_LINKS);
     }

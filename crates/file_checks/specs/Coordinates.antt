@@ -1,4 +1,4 @@
--- Check 7, record by record. Assumes nothing.
+-- Check 7, record by record.
 use Prim.Native.Nat.{ℕ, _/_}
 use mathlib.Core.List.{List}
 use mathlib.Core.Bool.{Bool, true, cond}

@@ -1,4 +1,4 @@
--- The order of a file's records, one at a time: which bodies are left. Assumes nothing.
+-- The order of a file's records, one at a time: which bodies are left.
 use mathlib.Core.List.{List}
 use mathlib.Core.Bool.{Bool}
 use lib.Dec.{eqb}

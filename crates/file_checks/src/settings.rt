@@ -37,7 +37,7 @@ pub fn no_settings() -> Settings
     }
 }
 
-// The settings of the record at a place, and nothing where it is another.
+// The settings of the record at a place, and all zeros where it is another.
 pub fn settings_of(file: &[u8], at: usize) -> Settings
     ensures { λ r. ⌜ r ≡ settingsIn (recordRead (now (file .entry)) at .body) ⌝ }
 {

@@ -1,4 +1,4 @@
--- Laws of specs/Back.
+-- Laws of specs/Back: nothing is lost in the arrays, so an accepted file's arrays say its whole drawing. Assumes nothing.
 use Prim.Native.Nat.{ℕ, suc, _+_, _-_}
 use native.Mathlib.Omega.{arith}
 use mathlib.Core.Path.{_≡_, refl, sym, ap, _∙_}
@@ -10,11 +10,11 @@ use Rattle.lists.proofs.Parts.{at-front, behind-front}
 use Rattle.drawing_spec.specs.Bytes.{number}
 use Rattle.drawing_spec.specs.Drawing as drawn
 use Rattle.drawing_spec.specs.Drawing.{linePoints}
-use Rattle.drawing_spec.specs.Read.{Record, point, points, settingsOf, lineOf, linkOf, bodies, drawingOf}
+use Rattle.drawing_spec.specs.Read.{Record, point, points, settingsOf, pointsOfLine, linkOf, bodies, drawingOf}
 use Rattle.drawing_spec.proofs.OnGrid.{read-below, place-back}
 use Rattle.file_records.specs.Body.{edgeFrom}
 use Rattle.file_records.specs.declared.MstEdge.{MstEdge}
-use Rattle.file_drawing.specs.Held.{noEdge, pastEnd, drawingHeld}
+use Rattle.file_drawing.specs.Held.{noLink, pastEnd, drawingHeld}
 use Rattle.file_drawing.specs.Stores.{padded, xsOf, ysOf, endsFrom}
 use Rattle.file_drawing.specs.Back.{drawingFrom, linesBack, linkBack, linksBack, pointsBack}
 
@@ -68,12 +68,12 @@ links-back (b ∷ bs) i edges r e =
 pub drawing-back : (rs : List Record) → drawingFrom (drawingHeld (drawingOf rs)) ≡ drawingOf rs
 unfolding drawingFrom drawingHeld drawingOf
 drawing-back rs =
-    let ls = map lineOf (bodies 2 rs) in
+    let ls = map pointsOfLine (bodies 2 rs) in
     let bs = bodies 3 rs in
     let lines-are : linesBack (length ls) 0 (padded (mostLines + 1) 0 (0 ∷ endsFrom 0 ls)) (padded mostPoints 0 (xsOf (linePoints ls))) (padded mostPoints 0 (ysOf (linePoints ls))) ≡ ls =
     lines-back ls 0 0 (padded (mostLines + 1) 0 (0 ∷ endsFrom 0 ls)) (padded mostPoints 0 (xsOf (linePoints ls))) (padded mostPoints 0 (ysOf (linePoints ls))) (replicate ((mostLines + 1) - length (0 ∷ endsFrom 0 ls)) 0) (replicate (mostPoints - length (xsOf (linePoints ls))) 0) (replicate (mostPoints - length (ysOf (linePoints ls))) 0) refl refl refl in
-    let links-are : linksBack (length (map linkOf bs)) 0 (padded mostLinks noEdge (map edgeFrom (map linkOf bs))) ≡ map linkOf bs =
-    ap (λ (n : ℕ). linksBack n 0 (padded mostLinks noEdge (map edgeFrom (map linkOf bs)))) (length-map bs linkOf)
-    ∙ links-back bs 0 (padded mostLinks noEdge (map edgeFrom (map linkOf bs))) (replicate (mostLinks - length (map edgeFrom (map linkOf bs))) noEdge) refl in
-    ap (λ (ms : List (List drawn.Point)). record { settings = settingsOf (getD (bodies 1 rs) 0 []); lines = ms; links = linksBack (length (map linkOf bs)) 0 (padded mostLinks noEdge (map edgeFrom (map linkOf bs))) }) lines-are
+    let links-are : linksBack (length (map linkOf bs)) 0 (padded mostLinks noLink (map edgeFrom (map linkOf bs))) ≡ map linkOf bs =
+    ap (λ (n : ℕ). linksBack n 0 (padded mostLinks noLink (map edgeFrom (map linkOf bs)))) (length-map bs linkOf)
+    ∙ links-back bs 0 (padded mostLinks noLink (map edgeFrom (map linkOf bs))) (replicate (mostLinks - length (map edgeFrom (map linkOf bs))) noLink) refl in
+    ap (λ (ms : List (List drawn.Point)). record { settings = settingsOf (getD (bodies 1 rs) 0 []); lines = ms; links = linksBack (length (map linkOf bs)) 0 (padded mostLinks noLink (map edgeFrom (map linkOf bs))) }) lines-are
     ∙ ap (λ (ks : List drawn.Link). record { settings = settingsOf (getD (bodies 1 rs) 0 []); lines = ls; links = ks }) links-are

@@ -15,10 +15,10 @@ use Rattle.drawing_spec.specs.Drawing.{Point, End, Link, Drawing}
 use Rattle.drawing_spec.specs.Read.{every, endFits, linksFit}
 use Rattle.file_records.specs.Body.{edgeFrom}
 use Rattle.file_records.specs.declared.MstEdge.{MstEdge}
-use Rattle.file_drawing.specs.Held.{noEdge, pastEnd}
+use Rattle.file_drawing.specs.Held.{noLink, pastEnd}
 use Rattle.file_drawing.specs.Stores.{endsFrom}
 use Rattle.file_drawing.proofs.Stores.{length-ends}
-use Rattle.file_drawing.specs.Fit.{edgeHeld, edgesHeld, endHeld}
+use Rattle.file_drawing.specs.Fit.{linkFitsIn, linksFitIn, endHeld}
 
 -- ---- one end
 
@@ -38,21 +38,21 @@ module _ (starts : List ℕ) (lines line segment : ℕ) where
 -- ---- the loop over the links
 
 module _ (starts : List ℕ) (lines : ℕ) (edges : List MstEdge) (n i : ℕ) where
-  held-step : i < n → edgesHeld starts lines edges (n - i) i ≡ edgeHeld starts lines (getD edges i pastEnd) && edgesHeld starts lines edges (n - (i + 1)) (i + 1)
-  unfolding edgesHeld
+  held-step : i < n → linksFitIn starts lines edges (n - i) i ≡ linkFitsIn starts lines (getD edges i pastEnd) && linksFitIn starts lines edges (n - (i + 1)) (i + 1)
+  unfolding linksFitIn
   held-step h =
       let e : n - i ≡ suc (n - (i + 1)) = omega arith in
-      ap (λ (k : ℕ). edgesHeld starts lines edges k i) e ∙ ap (λ (k : ℕ). edgeHeld starts lines (getD edges i pastEnd) && edgesHeld starts lines edges (n - (i + 1)) k) (sym (add-one i))
+      ap (λ (k : ℕ). linksFitIn starts lines edges k i) e ∙ ap (λ (k : ℕ). linkFitsIn starts lines (getD edges i pastEnd) && linksFitIn starts lines edges (n - (i + 1)) k) (sym (add-one i))
 
-  pub held-on : edgesHeld starts lines edges (n - i) i ≡ edgesHeld starts lines edges n 0 → i < n → edgeHeld starts lines (getD edges i pastEnd) ≡ true → edgesHeld starts lines edges (n - (i + 1)) (i + 1) ≡ edgesHeld starts lines edges n 0
-  held-on e h t = sym (held-step h ∙ ap (λ (b : Bool). b && edgesHeld starts lines edges (n - (i + 1)) (i + 1)) t) ∙ e
+  pub held-on : linksFitIn starts lines edges (n - i) i ≡ linksFitIn starts lines edges n 0 → i < n → linkFitsIn starts lines (getD edges i pastEnd) ≡ true → linksFitIn starts lines edges (n - (i + 1)) (i + 1) ≡ linksFitIn starts lines edges n 0
+  held-on e h t = sym (held-step h ∙ ap (λ (b : Bool). b && linksFitIn starts lines edges (n - (i + 1)) (i + 1)) t) ∙ e
 
-  pub held-off : edgesHeld starts lines edges (n - i) i ≡ edgesHeld starts lines edges n 0 → i < n → edgeHeld starts lines (getD edges i pastEnd) ≡ false → false ≡ edgesHeld starts lines edges n 0
-  held-off e h t = sym (held-step h ∙ ap (λ (b : Bool). b && edgesHeld starts lines edges (n - (i + 1)) (i + 1)) t) ∙ e
+  pub held-off : linksFitIn starts lines edges (n - i) i ≡ linksFitIn starts lines edges n 0 → i < n → linkFitsIn starts lines (getD edges i pastEnd) ≡ false → false ≡ linksFitIn starts lines edges n 0
+  held-off e h t = sym (held-step h ∙ ap (λ (b : Bool). b && linksFitIn starts lines edges (n - (i + 1)) (i + 1)) t) ∙ e
 
-  pub held-end : edgesHeld starts lines edges (n - i) i ≡ edgesHeld starts lines edges n 0 → n ≤ i → true ≡ edgesHeld starts lines edges n 0
-  unfolding edgesHeld
-  held-end e h = let z : n - i ≡ 0 = omega arith in sym (ap (λ (k : ℕ). edgesHeld starts lines edges k i) z) ∙ e
+  pub held-end : linksFitIn starts lines edges (n - i) i ≡ linksFitIn starts lines edges n 0 → n ≤ i → true ≡ linksFitIn starts lines edges n 0
+  unfolding linksFitIn
+  held-end e h = let z : n - i ≡ 0 = omega arith in sym (ap (λ (k : ℕ). linksFitIn starts lines edges k i) z) ∙ e
 
 -- ---- it is check 8 of the drawing
 
@@ -99,8 +99,8 @@ module _ (ls : List (List Point)) (few : length ls ≤ mostLines) where
       go false h = rw (h, ap length (List·getD-eq-default ls [] {n = i} (ltb-false i (length ls) h)))
 
 every-edge : (ls : List (List Point)) → length ls ≤ mostLines → (ks : List Link) (edges rest : List MstEdge) (i : ℕ) → drop i edges ≡ map edgeFrom ks ++ rest
-    → edgesHeld (sets (replicate (mostLines + 1) 0) 1 (endsFrom 0 ls)) (length ls) edges (length ks) i ≡ every (λ (l : Link). endFits ls (l .first) && endFits ls (l .second)) ks
-unfolding edgesHeld every
+    → linksFitIn (sets (replicate (mostLines + 1) 0) 1 (endsFrom 0 ls)) (length ls) edges (length ks) i ≡ every (λ (l : Link). endFits ls (l .first) && endFits ls (l .second)) ks
+unfolding linksFitIn every
 every-edge ls few [] edges rest i e = refl
 every-edge ls few (k ∷ ks) edges rest i e =
     let here : getD edges i pastEnd ≡ edgeFrom k = ap (λ (j : ℕ). getD edges j pastEnd) (sym (add-zero i)) ∙ sym (getD-drop i edges 0 pastEnd) ∙ ap (λ (l : List MstEdge). getD l 0 pastEnd) e in
@@ -108,8 +108,8 @@ every-edge ls few (k ∷ ks) edges rest i e =
     rw (here, end-is ls few (k .first), end-is ls few (k .second), every-edge ls few ks edges rest (suc i) there)
 
 pub links-are : (d : Drawing) → length (d .lines) ≤ mostLines → length (d .links) ≤ mostLinks
-    → edgesHeld (sets (replicate (mostLines + 1) 0) 1 (endsFrom 0 (d .lines))) (length (d .lines)) (sets (replicate mostLinks noEdge) 0 (map edgeFrom (d .links))) (length (d .links)) 0 ≡ linksFit d
+    → linksFitIn (sets (replicate (mostLines + 1) 0) 1 (endsFrom 0 (d .lines))) (length (d .lines)) (sets (replicate mostLinks noLink) 0 (map edgeFrom (d .links))) (length (d .links)) 0 ≡ linksFit d
 unfolding linksFit
 links-are d l k =
-    every-edge (d .lines) l (d .links) (sets (replicate mostLinks noEdge) 0 (map edgeFrom (d .links))) (drop (0 + length (map edgeFrom (d .links))) (replicate mostLinks noEdge)) 0
-    (let m = length-map (d .links) edgeFrom in sets-eq (map edgeFrom (d .links)) (replicate mostLinks noEdge) 0 (rw length-replicate (omega arith)))
+    every-edge (d .lines) l (d .links) (sets (replicate mostLinks noLink) 0 (map edgeFrom (d .links))) (drop (0 + length (map edgeFrom (d .links))) (replicate mostLinks noLink)) 0
+    (let m = length-map (d .links) edgeFrom in sets-eq (map edgeFrom (d .links)) (replicate mostLinks noLink) 0 (rw length-replicate (omega arith)))

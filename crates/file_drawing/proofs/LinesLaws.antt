@@ -12,7 +12,7 @@ use Rattle.limits.specs.Limits.{mostPoints}
 use Rattle.grid.specs.Grid.{readPlace}
 use Rattle.drawing_spec.specs.Bytes.{number}
 use Rattle.drawing_spec.specs.Drawing.{Point, linePoints}
-use Rattle.drawing_spec.specs.Read.{placeAt, points, lineOf, bodies, total, linesThenLinks, lengthsFit}
+use Rattle.drawing_spec.specs.Read.{placeAt, points, pointsOfLine, bodies, total, linesThenLinks, lengthsFit}
 use Rattle.file_records.specs.Walk.{sizeAt, kindAt, bodyAt, nextAt, recordsFrom, cutFrom}
 use Rattle.file_records.proofs.Walk.{recordAt, room, still-whole, record-here, body-long}
 use Rattle.file_records.specs.Body.{recordRead}
@@ -98,8 +98,8 @@ module _ (file : List ℕ) (at : ℕ) (w : cutFrom file at ≡ false) (o : lines
   pub links-here : bodies 3 (recordsFrom file at) ≡ bodies 3 (recordsFrom file (nextAt file at))
   links-here = let k = next .0 in ap (bodies 3) (record-here file at here w) ∙ bodies-other 3 (recordAt file at) (recordsFrom file (nextAt file at)) (λ q. omega arith)
 
-  pub line-is : lineOf (bodyAt file at) ≡ points (sizeAt file at / 16) (bodyAt file at)
-  unfolding lineOf
+  pub line-is : pointsOfLine (bodyAt file at) ≡ points (sizeAt file at / 16) (bodyAt file at)
+  unfolding pointsOfLine
   line-is = ap (λ (n : ℕ). points (n / 16) (bodyAt file at)) (body-long file at here w)
 
 -- ---- the loop over the lines
@@ -138,7 +138,7 @@ module _ (file : List ℕ) (start count : ℕ) (a : Arrays) (at line filled : �
   none-more : length (bodies 2 (recordsFrom file at)) ≡ 0
   none-more = let l = f .left in omega arith
 
-  no-bodies : (bs : List (List ℕ)) → length bs ≡ 0 → map lineOf bs ≡ []
+  no-bodies : (bs : List (List ℕ)) → length bs ≡ 0 → map pointsOfLine bs ≡ []
   no-bodies [] e = refl
   no-bodies (b ∷ bs) e = absurd (omega arith)
 
@@ -199,7 +199,7 @@ module _ (file : List ℕ) (start count : ℕ) (a : Arrays) (at line filled : �
 
   lines-are : linesFrom file at ≡ points n part ∷ linesFrom file (nextAt file at)
   lines-are =
-      ap (map lineOf) bodies-are
+      ap (map pointsOfLine) bodies-are
       ∙ ap (λ (l : List Point). l ∷ linesFrom file (nextAt file at)) (line-is file at (f .is-whole) (f .in-order) (f .lengths-fit) some ∙ ap (λ (k : ℕ). points k (bodyAt file at)) (sym points-there) ∙ ap (points n) (sym part-there))
 
   next-x : (g : Point → ℕ) (now all : List ℕ) → sets now filled (map g (linePoints (linesFrom file at))) ≡ all

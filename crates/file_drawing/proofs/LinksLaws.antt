@@ -17,12 +17,12 @@ use Rattle.file_records.proofs.View.{link-front}
 use Rattle.file_records.proofs.Made.{body-link, record-whole}
 use Rattle.file_records.specs.declared.Body.the-variants as body
 use Rattle.file_records.specs.declared.MstEdge.{MstEdge}
-use Rattle.file_drawing.specs.Held.{edgeIn, noEdge}
+use Rattle.file_drawing.specs.Held.{linkIn, noLink}
 use Rattle.file_checks.proofs.TallyLaws.{link-size, bodies-here}
 use Rattle.file_checks.specs.Kinds.{allLinks}
 use Rattle.file_checks.proofs.KindsLaws.{links-cons, some-left}
 use Rattle.file_checks.proofs.CoordinatesLaws.{length-here, lengths-after}
-use Rattle.file_drawing.specs.Links.{AtLinks, edgesFrom}
+use Rattle.file_drawing.specs.Links.{AtLinks, linksFrom}
 
 -- ---- the link at a place, where links are left
 
@@ -42,12 +42,12 @@ module _ (file : List ℕ) (at : ℕ) (w : cutFrom file at ≡ false) (o : allLi
   bodies-are : bodies 3 (recordsFrom file at) ≡ bodyAt file at ∷ bodies 3 (recordsFrom file (nextAt file at))
   bodies-are = ap (bodies 3) (record-here file at here w) ∙ bodies-here 3 (recordAt file at) (recordsFrom file (nextAt file at)) (next .0)
 
-  edge-here : edgeIn (recordRead file at .body) ≡ edgeFrom (linkOf (bodyAt file at))
+  edge-here : linkIn (recordRead file at .body) ≡ edgeFrom (linkOf (bodyAt file at))
   edge-here =
       let k = next .0 in
       let e = edgeFrom (linkOf (drop (at + 6) file)) in
       let b = body-link file at (kindAt file at) (sizeAt file at) refl refl e (λ q. omega arith) (λ q. omega arith) k long refl in
-      sym (ap (λ r. edgeIn (r .body)) (record-whole file at true (sym (le-leb (nextAt file at) (length file) (room file at here w))) (body.Link e) refl b))
+      sym (ap (λ r. linkIn (r .body)) (record-whole file at true (sym (le-leb (nextAt file at) (length file) (room file at here w))) (body.Link e) refl b))
       ∙ ap edgeFrom (sym (ap (λ (n : ℕ). linkOf (take n (drop (at + 6) file))) long ∙ link-front (drop (at + 6) file)))
 
 -- ---- the loop over the links
@@ -58,9 +58,9 @@ pub record Linking (file : List ℕ) (start count at link : ℕ) (edges : List M
   pub only-links : allLinks (recordsFrom file at) ≡ true
   pub lengths-fit : lengthsFit (recordsFrom file at) ≡ true
   pub left : link + length (bodies 3 (recordsFrom file at)) ≡ count
-  pub same : sets edges link (edgesFrom file at) ≡ sets (replicate mostLinks noEdge) 0 (edgesFrom file start)
+  pub same : sets edges link (linksFrom file at) ≡ sets (replicate mostLinks noLink) 0 (linksFrom file start)
 
-pub link-start : (file : List ℕ) (start count : ℕ) (e : MstEdge) → AtLinks file start count → e ≡ noEdge → Linking file start count start 0 (replicate mostLinks e)
+pub link-start : (file : List ℕ) (start count : ℕ) (e : MstEdge) → AtLinks file start count → e ≡ noLink → Linking file start count start 0 (replicate mostLinks e)
 link-start file start count e a z =
     let n = a .counted in
     record {
@@ -69,11 +69,11 @@ link-start file start count e a z =
       only-links = a .only-links;
       lengths-fit = a .lengths-fit;
       left = omega arith;
-      same = ap (λ (e : MstEdge). sets (replicate mostLinks e) 0 (edgesFrom file start)) z;
+      same = ap (λ (e : MstEdge). sets (replicate mostLinks e) 0 (linksFrom file start)) z;
     }
 
 module _ (file : List ℕ) (start count at link : ℕ) (edges : List MstEdge) (f : Linking file start count at link edges) where
-  pub link-end : count ≤ link → edges ≡ sets (replicate mostLinks noEdge) 0 (edgesFrom file start)
+  pub link-end : count ≤ link → edges ≡ sets (replicate mostLinks noLink) 0 (linksFrom file start)
   link-end h =
       let l = f .left in
       sym (ap (sets edges link) (none (bodies 3 (recordsFrom file at)) (omega arith))) ∙ f .same
@@ -92,7 +92,7 @@ module _ (file : List ℕ) (start count at link : ℕ) (edges : List MstEdge) (f
       let r = room file at (some-left 3 file at s) (f .is-whole) in
       omega arith
 
-  pub link-on : link < count → (e : MstEdge) → e ≡ edgeIn (recordRead file at .body) → Linking file start count (at + 46) (link + 1) (set edges link e)
+  pub link-on : link < count → (e : MstEdge) → e ≡ linkIn (recordRead file at .body) → Linking file start count (at + 46) (link + 1) (set edges link e)
   link-on h e z =
       let s = some-link h in
       let w = f .is-whole in
@@ -109,8 +109,8 @@ module _ (file : List ℕ) (start count at link : ℕ) (edges : List MstEdge) (f
         lengths-fit = lengths-after file at t w (f .lengths-fit);
         left = omega arith;
         same =
-            ap (λ (k : ℕ). sets (set edges link e) k (edgesFrom file (nextAt file at))) (add-one link)
-            ∙ ap (λ (e : MstEdge). sets (set edges link e) (suc link) (edgesFrom file (nextAt file at))) (z ∙ edge-here file at w (f .only-links) (f .lengths-fit) s)
+            ap (λ (k : ℕ). sets (set edges link e) k (linksFrom file (nextAt file at))) (add-one link)
+            ∙ ap (λ (e : MstEdge). sets (set edges link e) (suc link) (linksFrom file (nextAt file at))) (z ∙ edge-here file at w (f .only-links) (f .lengths-fit) s)
             ∙ sym (ap (λ (bs : List (List ℕ)). sets edges link (map edgeFrom (map linkOf bs))) b)
             ∙ f .same;
       })

@@ -1,4 +1,4 @@
--- From the arrays back to the drawing: nothing is lost in them, so an accepted file's arrays say its whole drawing. Assumes nothing.
+-- From the arrays back to the drawing.
 use Prim.Native.Nat.{ℕ, zero, suc, _-_}
 use mathlib.Core.List.{List, [], _∷_}
 use lib.ListN.{getD}

@@ -1,4 +1,4 @@
--- Check 8, on the drawing's arrays. Assumes nothing.
+-- Check 8, on the drawing's arrays.
 use Prim.Native.Nat.{ℕ, zero, suc, _+_, _-_}
 use mathlib.Core.List.{List}
 use mathlib.Core.Bool.{Bool, true, _&&_}
@@ -14,10 +14,10 @@ unfoldable pub endHeld : List ℕ → ℕ → ℕ → ℕ → Bool
 endHeld starts lines line segment =
     ltb line lines && (ltb (getD starts line 0) (getD starts (line + 1) 0) && leb segment (getD starts (line + 1) 0 - getD starts line 0 - 2))
 
-abbrev pub edgeHeld : List ℕ → ℕ → MstEdge → Bool
-edgeHeld starts lines e = endHeld starts lines (e .«poly_a») (e .«seg_a») && endHeld starts lines (e .«poly_b») (e .«seg_b»)
+abbrev pub linkFitsIn : List ℕ → ℕ → MstEdge → Bool
+linkFitsIn starts lines e = endHeld starts lines (e .«poly_a») (e .«seg_a») && endHeld starts lines (e .«poly_b») (e .«seg_b»)
 
--- n links, from the link i on
-unfoldable pub edgesHeld : List ℕ → ℕ → List MstEdge → ℕ → ℕ → Bool
-edgesHeld starts lines edges zero i = true
-edgesHeld starts lines edges (suc n) i = edgeHeld starts lines (getD edges i pastEnd) && edgesHeld starts lines edges n (suc i)
+-- n links, from the link i on; of a drawing's arrays this is `linksFit` (proofs/Fit, `links-are`)
+unfoldable pub linksFitIn : List ℕ → ℕ → List MstEdge → ℕ → ℕ → Bool
+linksFitIn starts lines edges zero i = true
+linksFitIn starts lines edges (suc n) i = linkFitsIn starts lines (getD edges i pastEnd) && linksFitIn starts lines edges n (suc i)

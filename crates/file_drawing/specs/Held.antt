@@ -19,8 +19,8 @@ use Rattle.file_drawing.specs.Stores.{padded, xsOf, ysOf, endsFrom}
 abbrev noPoint : Point
 noPoint = record { x = fin false 0 (pos 0); y = fin false 0 (pos 0) }
 
-abbrev pub noEdge : MstEdge
-noEdge = record { «poly_a» = 0; «seg_a» = 0; «poly_b» = 0; «seg_b» = 0; «point_a» = noPoint; «point_b» = noPoint }
+abbrev pub noLink : MstEdge
+noLink = record { «poly_a» = 0; «seg_a» = 0; «poly_b» = 0; «seg_b» = 0; «point_a» = noPoint; «point_b» = noPoint }
 
 -- what the checker takes an element past the end of an array to be: no link is read there
 abbrev pub pastEnd : MstEdge
@@ -33,11 +33,11 @@ pointsOf (body.Line n) = n
 pointsOf (body.Link e) = 0
 pointsOf body.Other = 0
 
-abbrev pub edgeIn : Body → MstEdge
-edgeIn (body.Settings s) = noEdge
-edgeIn (body.Line l) = noEdge
-edgeIn (body.Link e) = e
-edgeIn body.Other = noEdge
+abbrev pub linkIn : Body → MstEdge
+linkIn (body.Settings s) = noLink
+linkIn (body.Line l) = noLink
+linkIn (body.Link e) = e
+linkIn body.Other = noLink
 
 -- a drawing in flat arrays, with zeros behind what they hold
 unfoldable pub drawingHeld : drawn.Drawing → Drawing
@@ -49,5 +49,5 @@ drawingHeld d = record {
   xs = padded mostPoints 0 (xsOf (linePoints (d .lines)));
   ys = padded mostPoints 0 (ysOf (linePoints (d .lines)));
   «link_count» = length (d .links);
-  links = padded mostLinks noEdge (map edgeFrom (d .links));
+  links = padded mostLinks noLink (map edgeFrom (d .links));
 }

@@ -1,4 +1,4 @@
--- The lines of a file, read one after another into flat arrays. Assumes nothing.
+-- The lines of a file, read one after another into flat arrays.
 use Prim.Native.Nat.{ℕ, _≤_}
 use mathlib.Core.Path.{_≡_}
 use mathlib.Core.List.{List, map}
@@ -7,7 +7,7 @@ use lib.ListN.{length}
 use lib.Seq.{sets}
 use Rattle.limits.specs.Limits.{mostLines, mostPoints}
 use Rattle.drawing_spec.specs.Drawing.{Point, linePoints}
-use Rattle.drawing_spec.specs.Read.{lineOf, bodies, linesThenLinks, lengthsFit}
+use Rattle.drawing_spec.specs.Read.{pointsOfLine, bodies, linesThenLinks, lengthsFit}
 use Rattle.file_records.specs.Walk.{recordsFrom, cutFrom}
 use Rattle.file_checks.specs.Tally.{pointsIn}
 use Rattle.file_checks.specs.Kinds.{allLinks}
@@ -16,7 +16,7 @@ use Rattle.file_drawing.specs.Stores.{xsOf, ysOf, endsFrom}
 -- ---- the lines from a place on
 
 abbrev pub linesFrom : List ℕ → ℕ → List (List Point)
-linesFrom file at = map lineOf (bodies 2 (recordsFrom file at))
+linesFrom file at = map pointsOfLine (bodies 2 (recordsFrom file at))
 
 -- lines and then links from a place on, so many lines and no more points than there is room for
 pub record AtLines (file : List ℕ) (at count : ℕ) : Type 0 where

@@ -1,4 +1,4 @@
--- The links of a file, read one after another into an array. Assumes nothing.
+-- The links of a file, read one after another into an array.
 use Prim.Native.Nat.{ℕ, _≤_}
 use mathlib.Core.Path.{_≡_}
 use mathlib.Core.List.{List, map}
@@ -11,8 +11,8 @@ use Rattle.file_records.specs.Body.{edgeFrom}
 use Rattle.file_records.specs.declared.MstEdge.{MstEdge}
 use Rattle.file_checks.specs.Kinds.{allLinks}
 
-abbrev pub edgesFrom : List ℕ → ℕ → List MstEdge
-edgesFrom file at = map edgeFrom (map linkOf (bodies 3 (recordsFrom file at)))
+abbrev pub linksFrom : List ℕ → ℕ → List MstEdge
+linksFrom file at = map edgeFrom (map linkOf (bodies 3 (recordsFrom file at)))
 
 -- links from a place on, so many of them
 pub record AtLinks (file : List ℕ) (at count : ℕ) : Type 0 where

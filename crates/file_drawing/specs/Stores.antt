@@ -1,4 +1,4 @@
--- Lists that a loop fills from the front, and the drawing's flat lists. Assumes nothing.
+-- Lists that a loop fills from the front, and the drawing's flat lists.
 use Prim.Native.Nat.{ℕ, _+_, _-_}
 use mathlib.Core.List.{List, [], _∷_, _++_, map}
 use lib.ListN.{length, replicate}

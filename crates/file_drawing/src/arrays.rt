@@ -6,10 +6,10 @@ ghost use lib.Seq.{sets};
 ghost use Rattle.limits.specs.Limits.{mostPoints, mostLinks};
 ghost use Rattle.drawing_spec.specs.Read.{points};
 ghost use Rattle.file_records.specs.Body.{recordRead};
-ghost use Rattle.file_drawing.specs.Held.{pointsOf, edgeIn, noEdge};
+ghost use Rattle.file_drawing.specs.Held.{pointsOf, linkIn, noLink};
 ghost use Rattle.file_drawing.specs.Stores.{xsOf, ysOf};
 ghost use Rattle.file_drawing.specs.Lines.{AtLines, arrays, LinesRead};
-ghost use Rattle.file_drawing.specs.Links.{AtLinks, edgesFrom};
+ghost use Rattle.file_drawing.specs.Links.{AtLinks, linksFrom};
 use file_records::Body;
 use file_records::MstEdge;
 use file_records::Point;
@@ -17,8 +17,8 @@ use limits::MOST_LINES;
 use limits::MOST_LINKS;
 use limits::MOST_POINTS;
 
-pub fn no_edge() -> MstEdge
-    ensures { λ r. ⌜ r ≡ noEdge ⌝ }
+pub fn no_link() -> MstEdge
+    ensures { λ r. ⌜ r ≡ noLink ⌝ }
 {
     let point = Point { x: 0.0, y: 0.0 };
     MstEdge {
@@ -44,16 +44,16 @@ fn points_of(body: Body) -> usize
 }
 
 // The link of the record at a place, and nothing where it is another.
-fn edge_of(file: &[u8], at: usize) -> MstEdge
-    ensures { λ r. ⌜ r ≡ edgeIn (recordRead (now (file .entry)) at .body) ⌝ }
+fn link_of(file: &[u8], at: usize) -> MstEdge
+    ensures { λ r. ⌜ r ≡ linkIn (recordRead (now (file .entry)) at .body) ⌝ }
 {
     let found = file_records::record_at(file, at);
     let body = found.body;
     match body {
-        Body::Settings(_) => no_edge(),
-        Body::Line(_) => no_edge(),
+        Body::Settings(_) => no_link(),
+        Body::Line(_) => no_link(),
         Body::Link(edge) => edge,
-        Body::Other => no_edge(),
+        Body::Other => no_link(),
     }
 }
 
@@ -81,8 +81,8 @@ fn fill_points(
     }
 }
 
-// Puts the lines of a file, of which there are `count`, from the place of the first on, into the arrays. The answer is
-// the place of the first link.
+// Puts the lines of a file, of which there are `count`, from the place of the first on, into the arrays: `starts` from
+// its index 1 on, since `starts[0]` is 0 already. The answer is the place of the first link.
 pub fn fill_lines(
     file: &[u8],
     start: usize,
@@ -115,13 +115,13 @@ pub fn fill_lines(
 // The links of a file, of which there are `count`, from the place of the first on.
 pub fn read_links(file: &[u8], start: usize, count: usize) -> [MstEdge; MOST_LINKS]
     requires { ⌜ AtLinks (now file) start count ⌝ }
-    ensures { λ r. ⌜ r ≡ sets (replicate mostLinks noEdge) 0 (edgesFrom (now (file .entry)) start) ⌝ }
+    ensures { λ r. ⌜ r ≡ sets (replicate mostLinks noLink) 0 (linksFrom (now (file .entry)) start) ⌝ }
 {
-    let mut edges = [no_edge(); MOST_LINKS];
+    let mut edges = [no_link(); MOST_LINKS];
     let mut at = start;
     let mut link = 0;
     while link < count {
-        edges[link] = edge_of(file, at);
+        edges[link] = link_of(file, at);
         at += 46;
         link += 1;
     }

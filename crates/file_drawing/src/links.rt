@@ -2,7 +2,7 @@
 ghost use mathlib.Core.Path.{_≡_};
 ghost use Prim.Native.Nat.{_-_, _≤_};
 ghost use Rattle.limits.specs.Limits.{mostLines, mostLinks};
-ghost use Rattle.file_drawing.specs.Fit.{endHeld, edgeHeld, edgesHeld};
+ghost use Rattle.file_drawing.specs.Fit.{endHeld, linkFitsIn, linksFitIn};
 use file_records::MstEdge;
 use limits::MOST_LINES;
 use limits::MOST_LINKS;
@@ -36,29 +36,29 @@ fn end_fits(starts: &[u16; MOST_LINES + 1], lines: usize, line: u16, segment: u1
 }
 
 // Check 8, of a link.
-fn edge_fits(starts: &[u16; MOST_LINES + 1], lines: usize, e: MstEdge) -> bool
+fn link_fits(starts: &[u16; MOST_LINES + 1], lines: usize, e: MstEdge) -> bool
     requires { ⌜ lines ≤ mostLines ⌝ }
-    ensures { λ r. ⌜ r ≡ edgeHeld (now (starts .entry)) lines e ⌝ }
+    ensures { λ r. ⌜ r ≡ linkFitsIn (now (starts .entry)) lines e ⌝ }
 {
     let a = end_fits(starts, lines, e.poly_a, e.seg_a);
     let b = end_fits(starts, lines, e.poly_b, e.seg_b);
     file_checks::both(a, b)
 }
 
-// Check 8.
-pub fn edges_fit(
+// Check 8: of a drawing's arrays it is `linksFit` of drawing_spec, by the law `links-are` of proofs/Fit.
+pub fn links_fit(
     starts: &[u16; MOST_LINES + 1],
     lines: usize,
     edges: [MstEdge; MOST_LINKS],
     count: usize,
 ) -> bool
     requires { ⌜ (lines ≤ mostLines) × (count ≤ mostLinks) ⌝ }
-    ensures { λ r. ⌜ r ≡ edgesHeld (now (starts .entry)) lines edges count 0 ⌝ }
+    ensures { λ r. ⌜ r ≡ linksFitIn (now (starts .entry)) lines edges count 0 ⌝ }
 {
     let mut i = 0;
     while i < count {
         let e = edges[i];
-        let fits = edge_fits(starts, lines, e);
+        let fits = link_fits(starts, lines, e);
         if !fits {
             return false;
         }

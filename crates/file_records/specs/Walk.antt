@@ -1,4 +1,4 @@
--- A file's records from a place on: what every pass over them needs. Assumes nothing.
+-- A file's records from a place on: what every pass over them needs.
 use Prim.Native.Nat.{ℕ, _+_}
 use mathlib.Core.List.{List}
 use mathlib.Core.Bool.{Bool}

@@ -12,14 +12,14 @@ use Rattle.graph_adjacency.specs.Lists.{Adjacency, noEdges}
 use Rattle.file_records.specs.declared.MstEdge.{MstEdge}
 use Rattle.file_records.specs.Body.{edgeFrom}
 use Rattle.file_drawing.specs.declared.Drawing.{Drawing}
-use Rattle.file_drawing.specs.Held.{noEdge}
+use Rattle.file_drawing.specs.Held.{noLink}
 use Rattle.file_drawing.specs.Held.{drawingHeld}
 use Rattle.file_drawing.specs.Back.{drawingFrom}
 use Rattle.graph_moves.specs.Moves.{Move}
-use Rattle.graph_splits.specs.Points.{Points, points, LowPoints}
+use Rattle.graph_splits.specs.Points.{Points, points, MeasurablePoints}
 use Rattle.graph_strokes.specs.Step.{Traced, traced}
 use Rattle.graph_chain.specs.Along.{tracedAlong}
-use Rattle.graph_line.specs.Lines.{Filing, filing, origin, Ready}
+use Rattle.graph_line.specs.Lines.{Filing, filing, anywhere, Ready}
 use Rattle.graph_lines.specs.All.{StartsInside}
 use Rattle.graph_filing.specs.Stored.{store, storeLinks, LinksFit}
 use Rattle.graph_filed.proofs.Ends.{noStore, filed-all, low-places}
@@ -38,7 +38,7 @@ module _ (d : Drawing) (S : Sound d) where
   unfolding drawingHeld
   points-are = ap (λ (x : Drawing). points (x .xs) (x .ys)) (S .held)
 
-  links-are : d .links ≡ map edgeFrom (drawingFrom d .links) ++ replicate (mostLinks - length (map edgeFrom (drawingFrom d .links))) noEdge
+  links-are : d .links ≡ map edgeFrom (drawingFrom d .links) ++ replicate (mostLinks - length (map edgeFrom (drawingFrom d .links))) noLink
   unfolding drawingHeld
   links-are = ap (λ (x : Drawing). x .links) (S .held)
 
@@ -63,8 +63,8 @@ module _ (d : Drawing) (S : Sound d) where
       let e = drawingFrom d in
       subst (λ (s : List ℕ). LinksFit s (d .links) (d .«link_count»)) (sym starts-are)
       (subst (λ (ms : List MstEdge). LinksFit (startsOf (e .lines)) ms (d .«link_count»)) (sym links-are)
-      (subst (LinksFit (startsOf (e .lines)) (map edgeFrom (e .links) ++ replicate (mostLinks - length (map edgeFrom (e .links))) noEdge)) (sym links-count)
-      (links-fit (e .lines) (S .counts .lines) (S .counts .points) (e .links) (replicate (mostLinks - length (map edgeFrom (e .links))) noEdge) (all-ok e (S .counts) (S .links-fit)) (S .links-on))))
+      (subst (LinksFit (startsOf (e .lines)) (map edgeFrom (e .links) ++ replicate (mostLinks - length (map edgeFrom (e .links))) noLink)) (sym links-count)
+      (links-fit (e .lines) (S .counts .lines) (S .counts .points) (e .links) (replicate (mostLinks - length (map edgeFrom (e .links))) noLink) (all-ok e (S .counts) (S .links-fit)) (S .links-on))))
 
   pub starts-held : StartsInside (d .starts)
   starts-held = subst StartsInside (sym starts-are) (starts-inside (drawingFrom d .lines) (S .counts .points))
@@ -97,7 +97,7 @@ module _ (d : Drawing) (S : Sound d) (hs ns xs ys : List ℕ) (e : store hs ns x
       let b = drawingFrom d in
       let e' : store hs ns xs ys ≡ storeLinks (startsOf (b .lines)) (d .links) (length (b .links)) 0 noStore =
       e ∙ ap (λ (s : List ℕ). storeLinks s (d .links) (d .«link_count») 0 noStore) (starts-are d S) ∙ ap (λ (n : ℕ). storeLinks (startsOf (b .lines)) (d .links) n 0 noStore) (links-count d S) in
-      filed-all (startsOf (b .lines)) (b .links) (d .links) (replicate (mostLinks - length (map edgeFrom (b .links))) noEdge) hs ns xs ys (links-are d S) (S .links-on) (ends-few b (S .counts) (S .links-fit)) e'
+      filed-all (startsOf (b .lines)) (b .links) (d .links) (replicate (mostLinks - length (map edgeFrom (b .links))) noLink) hs ns xs ys (links-are d S) (S .links-on) (ends-few b (S .counts) (S .links-fit)) e'
 
   one : View
   one = view (filing (points xs ys) ns hs) (points (d .xs) (d .ys)) (d .starts) (d .lines) (d .«link_count») t a
@@ -119,14 +119,14 @@ module _ (d : Drawing) (S : Sound d) (hs ns xs ys : List ℕ) (e : store hs ns x
       ∙ ap (λ (x : Table). view (filingIn b) (pointsOf (b .lines)) (startsOf (b .lines)) (length (b .lines)) (length (b .links)) x a) et
       ∙ ap (λ (x : Adjacency). view (filingIn b) (pointsOf (b .lines)) (startsOf (b .lines)) (length (b .lines)) (length (b .links)) noNodes x) ea
 
-  pub low-held : LowPoints (points xs ys)
-  low-held = subst (λ (f : Filing). LowPoints (f .ends)) (sym filing-same) (low-places (drawingFrom d .links) (S .links-on))
+  pub low-held : MeasurablePoints (points xs ys)
+  low-held = subst (λ (f : Filing). MeasurablePoints (f .ends)) (sym filing-same) (low-places (drawingFrom d .links) (S .links-on))
 
   pub ready-held : Ready (movesIn (filing (points xs ys) ns hs) (points (d .xs) (d .ys)) (d .starts) (d .lines) (d .«link_count»)) (traced t a 0 0 0)
   unfolding one two
   ready-held = subst (λ (v : View). Ready (viewMoves v) (viewState v)) (sym same-view) (all-ready (drawingFrom d) (S .counts) (S .links-fit) (S .lines-on) (S .links-on))
 
-  pub built-held : (s : Traced) → s ≡ tracedAlong origin (movesIn (filing (points xs ys) ns hs) (points (d .xs) (d .ys)) (d .starts) (d .lines) (d .«link_count»)) (traced t a 0 0 0)
+  pub built-held : (s : Traced) → s ≡ tracedAlong anywhere (movesIn (filing (points xs ys) ns hs) (points (d .xs) (d .ys)) (d .starts) (d .lines) (d .«link_count»)) (traced t a 0 0 0)
       → Built (buildGraph (drawingFrom d)) (s .nodeCount) (s .edgeCount) (s .table .xs) (s .table .ys) (s .edges)
   unfolding one two
-  built-held s h = all-built (drawingFrom d) (S .counts) (S .links-fit) (S .lines-on) (S .links-on) s (h ∙ ap (λ (v : View). tracedAlong origin (viewMoves v) (viewState v)) same-view)
+  built-held s h = all-built (drawingFrom d) (S .counts) (S .links-fit) (S .lines-on) (S .links-on) s (h ∙ ap (λ (v : View). tracedAlong anywhere (viewMoves v) (viewState v)) same-view)

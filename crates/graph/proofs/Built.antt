@@ -5,11 +5,11 @@ use Prim.Native.Nat.{ℕ, _≤_}
 use native.Mathlib.Omega.{arith}
 use lib.ListN.{length}
 use Rattle.limits.specs.Limits.{edgeRoom}
-use Rattle.drawing_spec.specs.Drawing.{Point, Drawing}
+use Rattle.drawing_spec.specs.Drawing.{Point, noPoint, Drawing}
 use Rattle.lists.specs.Members.{All}
 use Rattle.drawing_spec.specs.OnGrid.{OnGrid, AtEnds}
 use Rattle.drawing_spec.specs.Accepted.{Counts}
-use Rattle.graph_spec.specs.Graph.{Edge, noPoint, buildGraph}
+use Rattle.graph_spec.specs.Graph.{Edge, buildGraph}
 use Rattle.graph_spec.specs.Weights.{Searchable}
 use Rattle.graph_spec.proofs.Built.{built-inside, built-on}
 use Rattle.graph_counts.specs.Few.{Few}

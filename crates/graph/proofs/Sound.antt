@@ -1,4 +1,4 @@
--- Laws of specs/Sound.
+-- Laws of specs/Sound: an accepted file's arrays are sound.
 use mathlib.Core.Path.{_≡_, sym, ap, subst, _∙_}
 use mathlib.Core.List.{List}
 use Prim.Native.Nat.{ℕ}

@@ -27,10 +27,10 @@ use Rattle.graph_moves.specs.Room.{Room}
 use Rattle.graph_counts.proofs.Nodes.{counted-few}
 use Rattle.graph_strokes.specs.Step.{Traced, traced, TracedTo}
 use Rattle.graph_strokes.proofs.StepLaws.{traced-none}
-use Rattle.graph_splits.specs.Points.{Low}
+use Rattle.graph_splits.specs.Points.{Measurable}
 use Rattle.graph_chain.specs.Along.{tracedAlong, Traceable}
 use Rattle.graph_chain.proofs.Along.{held-along}
-use Rattle.graph_line.specs.Lines.{Filing, chainsOf, origin, Ready}
+use Rattle.graph_line.specs.Lines.{Filing, chainsOf, anywhere, Ready}
 use Rattle.graph_lines.specs.All.{linesIn, linksIn}
 use Rattle.graph_filed.proofs.Ends.{number, endX, endY, filingOf}
 use Rattle.graph_filed.proofs.Chains.{chain-same}
@@ -53,7 +53,7 @@ unfolding endsOf
 ends-length [] = refl
 ends-length (k ∷ ks) = omega (arith, ends-length ks)
 
-on-low : (p : Point) → OnGrid p → Low p
+on-low : (p : Point) → OnGrid p → Measurable p
 on-low p h = (omega (arith, h .0), omega (arith, h .1))
 
 module _ (d : Drawing) (c : Counts d) (fit : linksFit d ≡ true) where
@@ -89,26 +89,26 @@ module _ (d : Drawing) (c : Counts d) (fit : linksFit d ≡ true) where
       ap (λ (ms : List Move). ms ++ linksIn (filingIn d .ends) (length (d .links)) 0) lines-are ∙ ap (λ (ms : List Move). linesMoves (d .links) 0 (d .lines) ++ ms) links-are
 
   module _ (lo : All (All OnGrid) (d .lines)) (ko : All (AtEnds OnGrid) (d .links)) where
-    traceable : Traceable origin (movesOf d) nothing
+    traceable : Traceable anywhere (movesOf d) nothing
     traceable = record {
       so-far = noGraph;
-      held = traced-none origin;
-      stands = stands-of [] origin d;
-      room = subst Room (sym (build-along d origin)) (let few = counted-few d c in (few .nodes, omega (arith, few .edges)));
+      held = traced-none anywhere;
+      stands = stands-of [] anywhere d;
+      room = subst Room (sym (build-along d anywhere)) (let few = counted-few d c in (few .nodes, omega (arith, few .edges)));
       here = (zero-le, zero-le);
-      places = subst (All Low) (sym (uses-of d)) (uses-of-all Low d (all-imp (All OnGrid) (All Low) (λ l a. all-imp OnGrid Low on-low l a) (d .lines) lo)
-          (all-imp (AtEnds OnGrid) (AtEnds Low) (λ k a. (on-low (k .first .point) (a .0), on-low (k .second .point) (a .1))) (d .links) ko));
+      places = subst (All Measurable) (sym (uses-of d)) (uses-of-all Measurable d (all-imp (All OnGrid) (All Measurable) (λ l a. all-imp OnGrid Measurable on-low l a) (d .lines) lo)
+          (all-imp (AtEnds OnGrid) (AtEnds Measurable) (λ k a. (on-low (k .first .point) (a .0), on-low (k .second .point) (a .1))) (d .links) ko));
     }
 
     pub all-ready : Ready (movesIn (filingIn d) (pointsOf (d .lines)) (startsOf (d .lines)) (length (d .lines)) (length (d .links))) nothing
-    all-ready = record { place = origin; traceable = subst (λ (ms : List Move). Traceable origin ms nothing) (sym moves-are) traceable }
+    all-ready = record { place = anywhere; traceable = subst (λ (ms : List Move). Traceable anywhere ms nothing) (sym moves-are) traceable }
 
-    pub all-built : (s : Traced) → s ≡ tracedAlong origin (movesIn (filingIn d) (pointsOf (d .lines)) (startsOf (d .lines)) (length (d .lines)) (length (d .links))) nothing
+    pub all-built : (s : Traced) → s ≡ tracedAlong anywhere (movesIn (filingIn d) (pointsOf (d .lines)) (startsOf (d .lines)) (length (d .lines)) (length (d .links))) nothing
         → Built (buildGraph d) (s .nodeCount) (s .edgeCount) (s .table .xs) (s .table .ys) (s .edges)
     unfolding traceable
     all-built s e =
-        let h : TracedTo (along origin (movesOf d) noGraph .nodes) (along origin (movesOf d) noGraph .edges) (endOf origin (movesOf d)) (tracedAlong origin (movesOf d) nothing) = held-along origin (movesOf d) nothing traceable in
-        let h₂ : TracedTo (buildGraph d .nodes) (buildGraph d .edges) (endOf origin (movesOf d)) s =
-        subst (TracedTo (buildGraph d .nodes) (buildGraph d .edges) (endOf origin (movesOf d))) (sym (e ∙ ap (λ (ms : List Move). tracedAlong origin ms nothing) moves-are))
-        (subst (λ (g : Graph). TracedTo (g .nodes) (g .edges) (endOf origin (movesOf d)) (tracedAlong origin (movesOf d) nothing)) (build-along d origin) h) in
-        traced-built d c lo ko (endOf origin (movesOf d)) s h₂
+        let h : TracedTo (along anywhere (movesOf d) noGraph .nodes) (along anywhere (movesOf d) noGraph .edges) (endOf anywhere (movesOf d)) (tracedAlong anywhere (movesOf d) nothing) = held-along anywhere (movesOf d) nothing traceable in
+        let h₂ : TracedTo (buildGraph d .nodes) (buildGraph d .edges) (endOf anywhere (movesOf d)) s =
+        subst (TracedTo (buildGraph d .nodes) (buildGraph d .edges) (endOf anywhere (movesOf d))) (sym (e ∙ ap (λ (ms : List Move). tracedAlong anywhere ms nothing) moves-are))
+        (subst (λ (g : Graph). TracedTo (g .nodes) (g .edges) (endOf anywhere (movesOf d)) (tracedAlong anywhere (movesOf d) nothing)) (build-along d anywhere) h) in
+        traced-built d c lo ko (endOf anywhere (movesOf d)) s h₂

@@ -1,4 +1,4 @@
--- What the arrays hold when the graph of a drawing is built. Assumes nothing.
+-- What the arrays hold when the graph of a drawing is built.
 use mathlib.Core.Path.{_≡_}
 use mathlib.Core.List.{List}
 use Prim.Native.Nat.{ℕ}

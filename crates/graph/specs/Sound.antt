@@ -1,10 +1,9 @@
--- An accepted file's arrays are sound: they hold the drawing that they say, and that drawing passes checks 6 to 8. Assumes nothing.
+-- What is known of an accepted file's arrays: they hold the drawing that they say, and that drawing passes checks 6 to 8.
 use mathlib.Core.Path.{_≡_}
 use Rattle.drawing_spec.specs.Drawing as drawn
 use mathlib.Core.Bool.{true}
 use Rattle.lists.specs.Members.{All}
 use Rattle.drawing_spec.specs.OnGrid.{OnGrid, AtEnds}
-use Rattle.drawing_spec.proofs.OnGrid.{lines-on, links-on}
 use Rattle.drawing_spec.specs.Read.{linksFit}
 use Rattle.drawing_spec.specs.Accepted.{Counts}
 use Rattle.file_drawing.specs.declared.Drawing.{Drawing}

@@ -1,4 +1,4 @@
--- The moves of a drawing, read from its arrays and those of its filed links. Assumes nothing.
+-- The moves of a drawing, read from its arrays and those of its filed links.
 use mathlib.Core.List.{List, _++_}
 use Prim.Native.Nat.{ℕ}
 use Rattle.graph_moves.specs.Moves.{Move}

@@ -1,4 +1,4 @@
--- Laws of specs/Follow.
+-- Laws of specs/Follow: following a node's list from its first arc gives the node's edges in document 01's order. Assumes nothing.
 use mathlib.Core.Path.{_≡_, refl, sym, ap, subst, _∙_}
 use mathlib.Core.List.{List, [], _∷_, _++_}
 use mathlib.Core.Bool.{Bool, true, false}

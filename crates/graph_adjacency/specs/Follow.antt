@@ -1,4 +1,4 @@
--- Following a node's list from its first arc gives the node's edges in document 01's order. Assumes nothing.
+-- What it is that following a node's list from an arc on gives a list of edges, each seen from the node.
 use mathlib.Core.Path.{_≡_}
 use mathlib.Core.List.{List, [], _∷_}
 use Prim.Native.Nat.{ℕ, _≤_, _<_}

@@ -9,7 +9,8 @@ use Rattle.limits.specs.Limits.{mostNodes}
 use Rattle.lists.specs.Members.{All}
 use Rattle.lists.proofs.Members.{all-at}
 use Rattle.drawing_spec.specs.OnGrid.{OnGrid}
-use Rattle.graph_spec.specs.Graph.{pointAt, noPoint}
+use Rattle.drawing_spec.specs.Drawing.{noPoint}
+use Rattle.graph_spec.specs.Graph.{pointAt}
 use Rattle.graph_arrays.specs.Arrays.{pointIn, nodesIn, NodesHeld, Front}
 use Rattle.graph_arrays.specs.NodeList.{NodeList}
 use Rattle.graph_arrays.proofs.Arrays.{front-at, front-long}

@@ -1,4 +1,4 @@
--- Laws of specs/Along.
+-- Laws of specs/Along: what the code makes of the flat lists is the graph along the moves. Assumes nothing.
 use mathlib.Core.Path.{_≡_, refl, subst}
 use mathlib.Core.List.{List, [], _∷_, _++_, map-append}
 use native.Mathlib.Omega.{arith}
@@ -12,7 +12,7 @@ use Rattle.graph_moves.specs.Built.{usesIn}
 use Rattle.graph_moves.proofs.Built.{stands-next}
 use Rattle.graph_moves.specs.Room.{Room}
 use Rattle.graph_moves.proofs.Room.{along-room}
-use Rattle.graph_splits.specs.Points.{Low}
+use Rattle.graph_splits.specs.Points.{Measurable}
 use Rattle.graph_strokes.specs.Step.{NodeReady, StepReady, Traced, TracedTo}
 use Rattle.graph_strokes.proofs.StepLaws.{node-ready, step-traced, begin-traced}
 use Rattle.graph_chain.specs.Along.{Traceable, tracedAlong, tracedBy}
@@ -83,7 +83,7 @@ traceable-front p ms ks s t = record {
   stands = stands-front (t .so-far .nodes) p ms ks (t .stands);
   room = along-room (endOf p ms) ks (along p ms (t .so-far)) (subst Room (along-append p ms ks (t .so-far)) (t .room));
   here = t .here;
-  places = all-front Low (usesIn ms) (usesIn ks) (subst (All Low) (map-append to ms ks) (t .places));
+  places = all-front Measurable (usesIn ms) (usesIn ks) (subst (All Measurable) (map-append to ms ks) (t .places));
 }
 
 pub traceable-back : (p : Point) (ms ks : List Move) (s : Traced) → Traceable p (ms ++ ks) s → Traceable (endOf p ms) ks (tracedAlong p ms s)

@@ -1,4 +1,4 @@
--- The nodes and edges in flat lists along a list of moves: what the code makes of them is the graph along these moves. Assumes nothing.
+-- The nodes and edges in flat lists along a list of moves, and when such moves can be traced.
 use mathlib.Core.List.{List, [], _∷_}
 use Rattle.drawing_spec.specs.Drawing.{Point}
 use Rattle.lists.specs.Members.{All}
@@ -6,7 +6,7 @@ use Rattle.graph_spec.specs.Graph.{Graph}
 use Rattle.graph_moves.specs.Moves.{Move, start, on, to, along, Stands}
 use Rattle.graph_moves.specs.Built.{usesIn}
 use Rattle.graph_moves.specs.Room.{Room}
-use Rattle.graph_splits.specs.Points.{Low}
+use Rattle.graph_splits.specs.Points.{Measurable}
 use Rattle.graph_strokes.specs.Step.{Traced, stepped, begun, TracedTo}
 
 -- one move, from p
@@ -24,5 +24,5 @@ pub record Traceable (p : Point) (ms : List Move) (s : Traced) : Type 0 where
   pub held : TracedTo (so-far .nodes) (so-far .edges) p s
   pub stands : Stands (so-far .nodes) p ms
   pub room : Room (along p ms so-far)
-  pub here : Low p
-  pub places : All Low (usesIn ms)
+  pub here : Measurable p
+  pub places : All Measurable (usesIn ms)

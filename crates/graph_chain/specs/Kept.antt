@@ -1,4 +1,4 @@
--- The points of a chain read from the sorted split points in flat lists. Assumes nothing.
+-- The points of a chain read from the sorted split points in flat lists.
 use mathlib.Core.List.{List, [], _∷_, _++_}
 use Prim.Native.Nat.{ℕ, _+_}
 use Rattle.drawing_spec.specs.Drawing.{Point}

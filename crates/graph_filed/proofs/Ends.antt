@@ -23,7 +23,7 @@ use Rattle.file_drawing.specs.Held.{pastEnd}
 use Rattle.file_drawing.specs.Stores.{padded}
 use Rattle.file_drawing.proofs.Stores.{sets-padded}
 use Rattle.file_drawing.specs.Back.{pointBack}
-use Rattle.graph_splits.specs.Points.{Points, points, LowPoints}
+use Rattle.graph_splits.specs.Points.{Points, points, MeasurablePoints}
 use Rattle.graph_line.specs.Lines.{Filing, filing}
 use Rattle.drawing_spec.proofs.OnGrid.{place-back}
 use Rattle.graph_filing.specs.Stored.{Store, store, withFiled, storeEnd, storeLink, storeLinks, placeIn}
@@ -112,7 +112,7 @@ unfolding endsOf
 ends-low f h [] a = tt
 ends-low f h (k ∷ ks) a = (h (k .first .point) (a .0 .0), (h (k .second .point) (a .0 .1), ends-low f h ks (a .1)))
 
-pub low-places : (ks : List Link) → All (AtEnds OnGrid) ks → LowPoints (placesOf (endsOf ks))
+pub low-places : (ks : List Link) → All (AtEnds OnGrid) ks → MeasurablePoints (placesOf (endsOf ks))
 low-places ks a = record {
   low = λ i. (
     low-at endX (endsOf ks) (mostSplits - length (map endX (endsOf ks))) i (ends-low (λ (p : Point). p .x) (λ p h. omega (arith, h .0)) ks a),

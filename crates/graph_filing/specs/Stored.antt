@@ -1,4 +1,4 @@
--- The ends of links filed by segment in flat lists, with their places. Assumes nothing.
+-- The ends of links filed by segment in flat lists, with their places.
 use mathlib.Core.List.{List}
 use Prim.Native.Nat.{ℕ, zero, suc, _+_, _*_, _<_}
 use lib.ListN.{getD, set}
@@ -8,7 +8,7 @@ use Rattle.graph_segment_ends.specs.Ends.{Filed, filed, fileEnd}
 use Rattle.file_records.specs.declared.MstEdge.{MstEdge}
 use Rattle.file_drawing.specs.Held.{pastEnd}
 use Rattle.file_drawing.specs.Back.{pointBack}
-use Rattle.graph_filing.specs.Floats.{OnFloat}
+use Rattle.graph_filing.specs.Floats.{IsCoordinate}
 
 -- the newest end of each segment; of each end the next older one and its place
 pub record Store : Type 0 where
@@ -51,10 +51,10 @@ pub record EndFits (starts : List ℕ) (line segment : ℕ) : Type 0 where
 pub record LinkFits (starts : List ℕ) (m : MstEdge) : Type 0 where
   pub first : EndFits starts (m .«poly_a») (m .«seg_a»)
   pub second : EndFits starts (m .«poly_b») (m .«seg_b»)
-  pub first-x : OnFloat (m .«point_a» .x)
-  pub first-y : OnFloat (m .«point_a» .y)
-  pub second-x : OnFloat (m .«point_b» .x)
-  pub second-y : OnFloat (m .«point_b» .y)
+  pub first-x : IsCoordinate (m .«point_a» .x)
+  pub first-y : IsCoordinate (m .«point_a» .y)
+  pub second-x : IsCoordinate (m .«point_b» .x)
+  pub second-y : IsCoordinate (m .«point_b» .y)
 
 pub record LinksFit (starts : List ℕ) (ms : List MstEdge) (n : ℕ) : Type 0 where
   pub each : (i : ℕ) → i < n → LinkFits starts (getD ms i pastEnd)

@@ -6,7 +6,7 @@ ghost use Rattle.limits.specs.Limits.{mostSplits, mostLinks};
 ghost use Rattle.grid.specs.Grid.{placeOf};
 ghost use Rattle.drawing_spec.specs.Read.{placeAt};
 ghost use Rattle.graph_splits.specs.Next.{at};
-ghost use Rattle.graph_filing.specs.Floats.{OnFloat};
+ghost use Rattle.graph_filing.specs.Floats.{IsCoordinate};
 ghost use Rattle.graph_filing.specs.Stored.{store, storeEnd, storeLink, placeIn, EndFits, LinkFits};
 use file_records::MstEdge;
 use grid::Place;
@@ -16,7 +16,7 @@ use limits::MOST_SPLITS;
 
 // The place of a coordinate that is on the grid.
 pub fn place_of(x: f64) -> u32
-    requires { ⌜ OnFloat x ⌝ }
+    requires { ⌜ IsCoordinate x ⌝ }
     ensures { λ r. ⌜ r ≡ placeAt (placeOf x) ⌝ }
 {
     let bits = f64::to_bits(x);

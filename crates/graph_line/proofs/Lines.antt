@@ -19,7 +19,7 @@ use Rattle.graph_strokes.specs.Step.{NodeReady, Traced, begun}
 use Rattle.graph_chain.specs.Along.{tracedBy, tracedAlong, Traceable}
 use Rattle.graph_chain.proofs.Along.{traced-append, traceable-next, traceable-front, traceable-back, begin-ready}
 use Rattle.graph_line.specs.Follow.{chainFrom, sortedFrom}
-use Rattle.graph_line.specs.Lines.{Filing, Ready, chainsOf, lineIn, origin, segmentsFrom}
+use Rattle.graph_line.specs.Lines.{Filing, Ready, chainsOf, lineIn, anywhere, segmentsFrom}
 
 line-some : (f : Filing) (ps : Points) (first stop : ℕ) → first < stop → lineIn f ps first stop ≡ start (pointIn ps first) ∷ segmentsFrom f ps stop first
 unfolding lineIn
@@ -59,14 +59,14 @@ ready-first f ps first stop s h r = begin-ready (r .place) (pointIn ps first) (s
 pub ready-front : (ms ks : List Move) (s : Traced) → Ready (ms ++ ks) s → Ready ms s
 ready-front ms ks s r = record { place = r .place; traceable = traceable-front (r .place) ms ks s (r .traceable) }
 
-pub ready-back : (ms ks : List Move) (s s' : Traced) → Ready (ms ++ ks) s → Anew ms → s' ≡ tracedAlong origin ms s → Ready ks s'
+pub ready-back : (ms ks : List Move) (s s' : Traced) → Ready (ms ++ ks) s → Anew ms → s' ≡ tracedAlong anywhere ms s → Ready ks s'
 ready-back ms ks s s' r h e = record {
   place = endOf (r .place) ms;
-  traceable = subst (Traceable (endOf (r .place) ms) ks) (anew-any (r .place) origin ms s h ∙ sym e) (traceable-back (r .place) ms ks s (r .traceable));
+  traceable = subst (Traceable (endOf (r .place) ms) ks) (anew-any (r .place) anywhere ms s h ∙ sym e) (traceable-back (r .place) ms ks s (r .traceable));
 }
 
-pub anew-back : (ms ks : List Move) (s s' : Traced) → Anew ks → s' ≡ tracedAlong origin ms s → tracedAlong origin (ms ++ ks) s ≡ tracedAlong origin ks s'
-anew-back ms ks s s' h e = traced-append origin ms ks s ∙ anew-any (endOf origin ms) origin ks (tracedAlong origin ms s) h ∙ ap (tracedAlong origin ks) (sym e)
+pub anew-back : (ms ks : List Move) (s s' : Traced) → Anew ks → s' ≡ tracedAlong anywhere ms s → tracedAlong anywhere (ms ++ ks) s ≡ tracedAlong anywhere ks s'
+anew-back ms ks s s' h e = traced-append anywhere ms ks s ∙ anew-any (endOf anywhere ms) anywhere ks (tracedAlong anywhere ms s) h ∙ ap (tracedAlong anywhere ks) (sym e)
 
 -- ---- along one line
 
@@ -94,9 +94,9 @@ module _ (f : Filing) (ps : Points) (stop : ℕ) where
   chain-ends : (g : ℕ) (a b : Point) → endOf a (drawAll (chainsOf f g a b)) ≡ b
   chain-ends g a b = end-draw a (changes a (inner a b (sortedFrom (f .ends) (f .next) (getD (f .newest) g 0) a))) b
 
-  pub line-empty : (first : ℕ) (s : Traced) → stop ≤ first → s ≡ tracedAlong origin (lineIn f ps first stop) s
+  pub line-empty : (first : ℕ) (s : Traced) → stop ≤ first → s ≡ tracedAlong anywhere (lineIn f ps first stop) s
   unfolding tracedAlong
-  line-empty first s h = sym (ap (λ (ms : List Move). tracedAlong origin ms s) (line-none f ps first stop h))
+  line-empty first s h = sym (ap (λ (ms : List Move). tracedAlong anywhere ms s) (line-none f ps first stop h))
 
   pub line-begins : (first : ℕ) (s s' : Traced) → first < stop → Ready (lineIn f ps first stop) s → s' ≡ begun (pointIn ps first) s
       → OnLine f ps stop first s' (tracedAlong (pointIn ps first) (segmentsFrom f ps stop first) s')
@@ -112,9 +112,9 @@ module _ (f : Filing) (ps : Points) (stop : ℕ) where
       }
 
   pub line-answer : (first : ℕ) (s s' r : Traced) → first < stop → s' ≡ begun (pointIn ps first) s → r ≡ tracedAlong (pointIn ps first) (segmentsFrom f ps stop first) s'
-      → r ≡ tracedAlong origin (lineIn f ps first stop) s
+      → r ≡ tracedAlong anywhere (lineIn f ps first stop) s
   unfolding tracedAlong tracedBy
-  line-answer first s s' r h e k = k ∙ ap (tracedAlong (pointIn ps first) (segmentsFrom f ps stop first)) e ∙ sym (ap (λ (ks : List Move). tracedAlong origin ks s) (line-some f ps first stop h))
+  line-answer first s s' r h e k = k ∙ ap (tracedAlong (pointIn ps first) (segmentsFrom f ps stop first)) e ∙ sym (ap (λ (ks : List Move). tracedAlong anywhere ks s) (line-some f ps first stop h))
 
   module _ (g : ℕ) (s r : Traced) (o : OnLine f ps stop g s r) where
     -- the segment from here, whose newest end is e

@@ -1,4 +1,4 @@
--- The split points of a segment, as its list of ends is followed, and gathered into the buffer. Assumes nothing.
+-- The split points of a segment, as its list of ends is followed, and gathered into the buffer.
 use mathlib.Core.Path.{_≡_}
 use mathlib.Core.Bool.{true, false}
 use mathlib.Core.List.{List, [], _∷_, _++_}

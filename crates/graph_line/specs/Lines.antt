@@ -1,4 +1,4 @@
--- The moves of lines whose points stand in flat lists, a segment after the other. Assumes nothing.
+-- The moves of lines whose points stand in flat lists, a segment after the other.
 use mathlib.Core.Bool.{true, false}
 use mathlib.Core.List.{List, [], _∷_}
 use Prim.Native.Nat.{ℕ, _+_, _-_}
@@ -36,8 +36,9 @@ lineIn f ps first stop = elim (ltb first stop) [ true ↦ start (pointIn ps firs
 
 -- ---- moves that begin anew, wherever the walk is
 
-abbrev pub origin : Point
-origin = at 0 0
+-- where such moves go on from: the first move begins anew, so this point is never used
+abbrev pub anywhere : Point
+anywhere = at 0 0
 
 -- wherever the walk is, the moves can be traced
 pub record Ready (ms : List Move) (s : Traced) : Type 0 where

@@ -3,12 +3,12 @@ ghost use mathlib.Core.Path.{_≡_};
 ghost use Prim.Native.Nat.{_≤_};
 ghost use Rattle.limits.specs.Limits.{mostPoints};
 ghost use Rattle.graph_splits.specs.Next.{at};
-ghost use Rattle.graph_splits.specs.Points.{points, LowPoints};
+ghost use Rattle.graph_splits.specs.Points.{points, MeasurablePoints};
 ghost use Rattle.graph_moves.specs.Moves.{drawAll};
 ghost use Rattle.graph_strokes.specs.Step.{tracedIn};
 ghost use Rattle.graph_chain.specs.Along.{tracedAlong, Traceable};
 ghost use Rattle.graph_line.specs.Follow.{chainFrom, Scratch};
-ghost use Rattle.graph_line.specs.Lines.{filing, lineIn, origin, Ready};
+ghost use Rattle.graph_line.specs.Lines.{filing, lineIn, anywhere, Ready};
 use graph_nodes::BUCKETS;
 use graph_strokes::Trail;
 use limits::ARC_ROOM;
@@ -42,8 +42,8 @@ pub fn trace_segment(
     by: u32,
 ) -> Trail
     requires scratch { ⌜ Scratch (now keys) (now sx) (now sy) ⌝ }
-    requires low { ⌜ LowPoints (points (now pxs) (now pys)) ⌝ }
-    requires room { ⌜ Traceable (at ax ay) (drawAll (chainFrom (points (now pxs) (now pys)) (now filed) first (at ax ay) (at bx by))) (tracedIn (now xs) (now ys) (now older) (now buckets) (now ends) (now weights) (now next) (now heads) from) ⌝ }
+    requires measurable { ⌜ MeasurablePoints (points (now pxs) (now pys)) ⌝ }
+    requires traceable { ⌜ Traceable (at ax ay) (drawAll (chainFrom (points (now pxs) (now pys)) (now filed) first (at ax ay) (at bx by))) (tracedIn (now xs) (now ys) (now older) (now buckets) (now ends) (now weights) (now next) (now heads) from) ⌝ }
     ensures graph { λ r. ⌜ tracedIn (now (xs .exit)) (now (ys .exit)) (now (older .exit)) (now (buckets .exit)) (now (ends .exit)) (now (weights .exit)) (now (next .exit)) (now (heads .exit)) r ≡ tracedAlong (at ax ay) (drawAll (chainFrom (points (now (pxs .entry)) (now (pys .entry))) (now (filed .entry)) first (at ax ay) (at bx by))) (tracedIn (now (xs .entry)) (now (ys .entry)) (now (older .entry)) (now (buckets .entry)) (now (ends .entry)) (now (weights .entry)) (now (next .entry)) (now (heads .entry)) from) ⌝ }
     ensures scratch { λ _. ⌜ Scratch (now (keys .exit)) (now (sx .exit)) (now (sy .exit)) ⌝ }
 {
@@ -93,9 +93,9 @@ pub fn trace_line(
 ) -> Trail
     requires inside { ⌜ stop ≤ mostPoints ⌝ }
     requires scratch { ⌜ Scratch (now keys) (now sx) (now sy) ⌝ }
-    requires low { ⌜ LowPoints (points (now pxs) (now pys)) ⌝ }
-    requires room { ⌜ Ready (lineIn (filing (points (now pxs) (now pys)) (now filed) (now newest)) (points (now lx) (now ly)) first stop) (tracedIn (now xs) (now ys) (now older) (now buckets) (now ends) (now weights) (now next) (now heads) from) ⌝ }
-    ensures graph { λ r. ⌜ tracedIn (now (xs .exit)) (now (ys .exit)) (now (older .exit)) (now (buckets .exit)) (now (ends .exit)) (now (weights .exit)) (now (next .exit)) (now (heads .exit)) r ≡ tracedAlong origin (lineIn (filing (points (now (pxs .entry)) (now (pys .entry))) (now (filed .entry)) (now (newest .entry))) (points (now (lx .entry)) (now (ly .entry))) first stop) (tracedIn (now (xs .entry)) (now (ys .entry)) (now (older .entry)) (now (buckets .entry)) (now (ends .entry)) (now (weights .entry)) (now (next .entry)) (now (heads .entry)) from) ⌝ }
+    requires measurable { ⌜ MeasurablePoints (points (now pxs) (now pys)) ⌝ }
+    requires traceable { ⌜ Ready (lineIn (filing (points (now pxs) (now pys)) (now filed) (now newest)) (points (now lx) (now ly)) first stop) (tracedIn (now xs) (now ys) (now older) (now buckets) (now ends) (now weights) (now next) (now heads) from) ⌝ }
+    ensures graph { λ r. ⌜ tracedIn (now (xs .exit)) (now (ys .exit)) (now (older .exit)) (now (buckets .exit)) (now (ends .exit)) (now (weights .exit)) (now (next .exit)) (now (heads .exit)) r ≡ tracedAlong anywhere (lineIn (filing (points (now (pxs .entry)) (now (pys .entry))) (now (filed .entry)) (now (newest .entry))) (points (now (lx .entry)) (now (ly .entry))) first stop) (tracedIn (now (xs .entry)) (now (ys .entry)) (now (older .entry)) (now (buckets .entry)) (now (ends .entry)) (now (weights .entry)) (now (next .entry)) (now (heads .entry)) from) ⌝ }
     ensures scratch { λ _. ⌜ Scratch (now (keys .exit)) (now (sx .exit)) (now (sy .exit)) ⌝ }
 {
     if stop <= first {

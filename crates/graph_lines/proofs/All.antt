@@ -10,7 +10,7 @@ use Rattle.graph_moves.specs.Moves.{Move, start, on}
 use Rattle.graph_strokes.specs.Step.{NodeReady, StepReady, Traced, begun, stepped}
 use Rattle.graph_chain.specs.Along.{tracedBy, tracedAlong, Traceable}
 use Rattle.graph_chain.proofs.Along.{traceable-next, step-ready, begin-ready}
-use Rattle.graph_line.specs.Lines.{Filing, lineIn, origin, Ready}
+use Rattle.graph_line.specs.Lines.{Filing, lineIn, anywhere, Ready}
 use Rattle.graph_line.proofs.Lines.{Anew, anew-any, anew-append, line-anew, ready-front, ready-back, anew-back}
 use Rattle.graph_lines.specs.All.{StartsInside, linesIn, linksIn}
 
@@ -26,13 +26,13 @@ module _ (f : Filing) (ps : Points) (starts : List ℕ) where
 -- before line i of n, with the flat lists s; all that is to come leads to the answer r
 pub record OnLines (f : Filing) (ps : Points) (starts : List ℕ) (n i : ℕ) (s r : Traced) : Type 0 where
   pub ready : Ready (linesIn f ps starts (n - i) i) s
-  pub answer : tracedAlong origin (linesIn f ps starts (n - i) i) s ≡ r
+  pub answer : tracedAlong anywhere (linesIn f ps starts (n - i) i) s ≡ r
 
 module _ (f : Filing) (ps : Points) (starts : List ℕ) (n : ℕ) where
-  pub lines-begin : (s : Traced) → Ready (linesIn f ps starts n 0) s → OnLines f ps starts n 0 s (tracedAlong origin (linesIn f ps starts n 0) s)
+  pub lines-begin : (s : Traced) → Ready (linesIn f ps starts n 0) s → OnLines f ps starts n 0 s (tracedAlong anywhere (linesIn f ps starts n 0) s)
   lines-begin s r =
       let none : n ≡ n - 0 = omega arith in
-      record { ready = subst (λ (m : ℕ). Ready (linesIn f ps starts m 0) s) none r; answer = sym (ap (λ (m : ℕ). tracedAlong origin (linesIn f ps starts m 0) s) none) }
+      record { ready = subst (λ (m : ℕ). Ready (linesIn f ps starts m 0) s) none r; answer = sym (ap (λ (m : ℕ). tracedAlong anywhere (linesIn f ps starts m 0) s) none) }
 
   module _ (i : ℕ) (s r : Traced) (o : OnLines f ps starts n i s r) where
     module _ (h : i < n) (a b : ℕ) (ea : a ≡ getD starts i 0) (eb : b ≡ getD starts (i + 1) 0) where
@@ -47,20 +47,20 @@ module _ (f : Filing) (ps : Points) (starts : List ℕ) (n : ℕ) where
       pub line-ready : Ready (lineIn f ps a b) s
       line-ready = ready-front (lineIn f ps a b) (linesIn f ps starts (n - (i + 1)) (i + 1)) s (subst (λ (ms : List Move). Ready ms s) one (o .ready))
 
-      pub line-drawn : (s' : Traced) → s' ≡ tracedAlong origin (lineIn f ps a b) s → OnLines f ps starts n (i + 1) s' r
+      pub line-drawn : (s' : Traced) → s' ≡ tracedAlong anywhere (lineIn f ps a b) s → OnLines f ps starts n (i + 1) s' r
       line-drawn s' e =
           let own = lineIn f ps a b in
           let rest = linesIn f ps starts (n - (i + 1)) (i + 1) in
           record {
             ready = ready-back own rest s s' (subst (λ (ms : List Move). Ready ms s) one (o .ready)) (line-anew f ps a b) e;
-            answer = sym (anew-back own rest s s' (lines-anew f ps starts (n - (i + 1)) (i + 1)) e) ∙ sym (ap (λ (ms : List Move). tracedAlong origin ms s) one) ∙ o .answer;
+            answer = sym (anew-back own rest s s' (lines-anew f ps starts (n - (i + 1)) (i + 1)) e) ∙ sym (ap (λ (ms : List Move). tracedAlong anywhere ms s) one) ∙ o .answer;
           }
 
     pub lines-end : n ≤ i → s ≡ r
     unfolding tracedAlong linesIn
     lines-end h =
         let none : n - i ≡ 0 = omega arith in
-        sym (ap (λ (m : ℕ). tracedAlong origin (linesIn f ps starts m i) s) none) ∙ o .answer
+        sym (ap (λ (m : ℕ). tracedAlong anywhere (linesIn f ps starts m i) s) none) ∙ o .answer
 
 pub links-anew : (f : Points) (n k : ℕ) → Anew (linksIn f n k)
 unfolding linksIn
@@ -69,13 +69,13 @@ links-anew f (suc n) k = tt
 
 pub record OnLinks (f : Points) (n k : ℕ) (s r : Traced) : Type 0 where
   pub ready : Ready (linksIn f (n - k) k) s
-  pub answer : tracedAlong origin (linksIn f (n - k) k) s ≡ r
+  pub answer : tracedAlong anywhere (linksIn f (n - k) k) s ≡ r
 
 module _ (f : Points) (n : ℕ) where
-  pub links-begin : (s : Traced) → Ready (linksIn f n 0) s → OnLinks f n 0 s (tracedAlong origin (linksIn f n 0) s)
+  pub links-begin : (s : Traced) → Ready (linksIn f n 0) s → OnLinks f n 0 s (tracedAlong anywhere (linksIn f n 0) s)
   links-begin s r =
       let none : n ≡ n - 0 = omega arith in
-      record { ready = subst (λ (m : ℕ). Ready (linksIn f m 0) s) none r; answer = sym (ap (λ (m : ℕ). tracedAlong origin (linksIn f m 0) s) none) }
+      record { ready = subst (λ (m : ℕ). Ready (linksIn f m 0) s) none r; answer = sym (ap (λ (m : ℕ). tracedAlong anywhere (linksIn f m 0) s) none) }
 
   module _ (k : ℕ) (s r : Traced) (o : OnLinks f n k s r) where
     module _ (h : k < n) where
@@ -107,12 +107,12 @@ module _ (f : Points) (n : ℕ) where
           let ms = linksIn f (n - (k + 1)) (k + 1) in
           record {
             ready = record { place = b; traceable = subst (Traceable b ms) (sym e₂) (traceable-next a (on b) ms s₁ first-done) };
-            answer = anew-any origin b ms s₂ (links-anew f (n - (k + 1)) (k + 1)) ∙ ap (tracedAlong b ms) (e₂ ∙ ap (stepped a b) e₁)
-                ∙ sym (ap (λ (ks : List Move). tracedAlong origin ks s) (link-one h)) ∙ o .answer;
+            answer = anew-any anywhere b ms s₂ (links-anew f (n - (k + 1)) (k + 1)) ∙ ap (tracedAlong b ms) (e₂ ∙ ap (stepped a b) e₁)
+                ∙ sym (ap (λ (ks : List Move). tracedAlong anywhere ks s) (link-one h)) ∙ o .answer;
           }
 
     pub links-end : n ≤ k → s ≡ r
     unfolding tracedAlong linksIn
     links-end h =
         let none : n - k ≡ 0 = omega arith in
-        sym (ap (λ (m : ℕ). tracedAlong origin (linksIn f m k) s) none) ∙ o .answer
+        sym (ap (λ (m : ℕ). tracedAlong anywhere (linksIn f m k) s) none) ∙ o .answer

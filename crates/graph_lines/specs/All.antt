@@ -1,4 +1,4 @@
--- The moves of all lines and of all links, read from flat lists. Assumes nothing.
+-- The moves of all lines and of all links, read from flat lists.
 use mathlib.Core.List.{List, [], _∷_, _++_}
 use Prim.Native.Nat.{ℕ, zero, suc, _+_, _*_, _≤_}
 use lib.ListN.{getD}

@@ -2,11 +2,11 @@
 ghost use mathlib.Core.Path.{_≡_};
 ghost use Prim.Native.Nat.{_≤_};
 ghost use Rattle.limits.specs.Limits.{mostLinks, mostLines};
-ghost use Rattle.graph_splits.specs.Points.{points, LowPoints};
+ghost use Rattle.graph_splits.specs.Points.{points, MeasurablePoints};
 ghost use Rattle.graph_strokes.specs.Step.{tracedIn};
 ghost use Rattle.graph_chain.specs.Along.{tracedAlong};
 ghost use Rattle.graph_line.specs.Follow.{Scratch};
-ghost use Rattle.graph_line.specs.Lines.{filing, origin, Ready};
+ghost use Rattle.graph_line.specs.Lines.{filing, anywhere, Ready};
 ghost use Rattle.graph_lines.specs.All.{linesIn, linksIn, StartsInside};
 use graph_nodes::BUCKETS;
 use graph_strokes::Trail;
@@ -17,7 +17,8 @@ use limits::MOST_NODES;
 use limits::MOST_POINTS;
 use limits::MOST_SPLITS;
 
-// All lines, in their order: line i's points are those from starts[i] to starts[i + 1].
+// All lines, in their order: line i's points are those from starts[i] to starts[i + 1]. What `keys`, `sx` and `sy` hold
+// afterwards is left open: they are lent for the split points of one segment at a time.
 pub fn trace_lines(
     xs: &mut [u32; MOST_NODES],
     ys: &mut [u32; MOST_NODES],
@@ -43,9 +44,9 @@ pub fn trace_lines(
     requires few { ⌜ lines ≤ mostLines ⌝ }
     requires inside { ⌜ StartsInside (now starts) ⌝ }
     requires scratch { ⌜ Scratch (now keys) (now sx) (now sy) ⌝ }
-    requires low { ⌜ LowPoints (points (now pxs) (now pys)) ⌝ }
-    requires room { ⌜ Ready (linesIn (filing (points (now pxs) (now pys)) (now filed) (now newest)) (points (now lx) (now ly)) (now starts) lines 0) (tracedIn (now xs) (now ys) (now older) (now buckets) (now ends) (now weights) (now next) (now heads) from) ⌝ }
-    ensures { λ r. ⌜ tracedIn (now (xs .exit)) (now (ys .exit)) (now (older .exit)) (now (buckets .exit)) (now (ends .exit)) (now (weights .exit)) (now (next .exit)) (now (heads .exit)) r ≡ tracedAlong origin (linesIn (filing (points (now (pxs .entry)) (now (pys .entry))) (now (filed .entry)) (now (newest .entry))) (points (now (lx .entry)) (now (ly .entry))) (now (starts .entry)) lines 0) (tracedIn (now (xs .entry)) (now (ys .entry)) (now (older .entry)) (now (buckets .entry)) (now (ends .entry)) (now (weights .entry)) (now (next .entry)) (now (heads .entry)) from) ⌝ }
+    requires measurable { ⌜ MeasurablePoints (points (now pxs) (now pys)) ⌝ }
+    requires traceable { ⌜ Ready (linesIn (filing (points (now pxs) (now pys)) (now filed) (now newest)) (points (now lx) (now ly)) (now starts) lines 0) (tracedIn (now xs) (now ys) (now older) (now buckets) (now ends) (now weights) (now next) (now heads) from) ⌝ }
+    ensures { λ r. ⌜ tracedIn (now (xs .exit)) (now (ys .exit)) (now (older .exit)) (now (buckets .exit)) (now (ends .exit)) (now (weights .exit)) (now (next .exit)) (now (heads .exit)) r ≡ tracedAlong anywhere (linesIn (filing (points (now (pxs .entry)) (now (pys .entry))) (now (filed .entry)) (now (newest .entry))) (points (now (lx .entry)) (now (ly .entry))) (now (starts .entry)) lines 0) (tracedIn (now (xs .entry)) (now (ys .entry)) (now (older .entry)) (now (buckets .entry)) (now (ends .entry)) (now (weights .entry)) (now (next .entry)) (now (heads .entry)) from) ⌝ }
 {
     let mut t = from;
     let mut i = 0;
@@ -95,8 +96,8 @@ pub fn trace_links(
     from: Trail,
 ) -> Trail
     requires few { ⌜ links ≤ mostLinks ⌝ }
-    requires room { ⌜ Ready (linksIn (points (now pxs) (now pys)) links 0) (tracedIn (now xs) (now ys) (now older) (now buckets) (now ends) (now weights) (now next) (now heads) from) ⌝ }
-    ensures { λ r. ⌜ tracedIn (now (xs .exit)) (now (ys .exit)) (now (older .exit)) (now (buckets .exit)) (now (ends .exit)) (now (weights .exit)) (now (next .exit)) (now (heads .exit)) r ≡ tracedAlong origin (linksIn (points (now (pxs .entry)) (now (pys .entry))) links 0) (tracedIn (now (xs .entry)) (now (ys .entry)) (now (older .entry)) (now (buckets .entry)) (now (ends .entry)) (now (weights .entry)) (now (next .entry)) (now (heads .entry)) from) ⌝ }
+    requires traceable { ⌜ Ready (linksIn (points (now pxs) (now pys)) links 0) (tracedIn (now xs) (now ys) (now older) (now buckets) (now ends) (now weights) (now next) (now heads) from) ⌝ }
+    ensures { λ r. ⌜ tracedIn (now (xs .exit)) (now (ys .exit)) (now (older .exit)) (now (buckets .exit)) (now (ends .exit)) (now (weights .exit)) (now (next .exit)) (now (heads .exit)) r ≡ tracedAlong anywhere (linksIn (points (now (pxs .entry)) (now (pys .entry))) links 0) (tracedIn (now (xs .entry)) (now (ys .entry)) (now (older .entry)) (now (buckets .entry)) (now (ends .entry)) (now (weights .entry)) (now (next .entry)) (now (heads .entry)) from) ⌝ }
 {
     let mut t = from;
     let mut k = 0;

@@ -1,4 +1,4 @@
--- Laws of specs/Built.
+-- Laws of specs/Built: the graph built along the moves of a drawing is the graph of the definitions, since an edge keeps its node numbers as later nodes come. Assumes nothing.
 use mathlib.Core.Path.{_≡_, refl, sym, ap, _∙_}
 use mathlib.Core.Bool.{Bool, true, false}
 use mathlib.Core.List.{List, [], _∷_, _++_, map, map-append, append-assoc, append-nil}

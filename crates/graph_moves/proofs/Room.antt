@@ -1,4 +1,4 @@
--- Laws of specs/Room.
+-- Laws of specs/Room: a graph that has room for its nodes and edges had room at every move before. Assumes nothing.
 use mathlib.Core.List.{List, [], _∷_, map}
 use native.Mathlib.Omega.{arith}
 use lib.ListN.{length-append}

@@ -1,4 +1,4 @@
--- The graph built along the moves of a drawing is the graph of the definitions: an edge keeps its node numbers as later nodes come. Assumes nothing.
+-- The points that moves lead to.
 use mathlib.Core.List.{List, map}
 use Rattle.drawing_spec.specs.Drawing.{Point}
 use Rattle.graph_moves.specs.Moves.{Move, to}

@@ -1,4 +1,4 @@
--- A graph that has room for its nodes and edges had room at every move before. Assumes nothing.
+-- That the arrays have room for the nodes and edges of a graph.
 use Prim.Native.Nat.{_≤_}
 use lib.ListN.{length}
 use Rattle.limits.specs.Limits.{mostNodes, mostEdges}

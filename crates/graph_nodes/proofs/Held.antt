@@ -1,4 +1,4 @@
--- Laws of specs/Held.
+-- Laws of specs/Held: the answers of a table that holds the nodes of a list are those of the list. Assumes nothing.
 use mathlib.Core.Path.{_≡_, refl, sym, ap, subst, _∙_}
 use mathlib.Core.Logic.{inl, inr}
 use mathlib.Core.List.{List, [], _∷_, _++_, map, map-append}

@@ -7,9 +7,9 @@ use native.Mathlib.Omega.{arith}
 use lib.ListN.{length, getD, drop, replicate, length-map, length-replicate, List·getD-map, List·getD-append, List·getD-eq-default}
 use lib.Seq.{sets, sets-eq, getD-append-add, getD-drop}
 use Rattle.limits.specs.Limits.{mostNodes}
-use Rattle.drawing_spec.specs.Drawing.{Point}
+use Rattle.drawing_spec.specs.Drawing.{Point, noPoint}
 use Rattle.lists.proofs.Elements.{getD-same}
-use Rattle.graph_spec.specs.Graph.{noPoint, pointAt}
+use Rattle.graph_spec.specs.Graph.{pointAt}
 use Rattle.graph_nodes.specs.Table.{Table}
 use Rattle.graph_nodes.specs.Held.{Held}
 

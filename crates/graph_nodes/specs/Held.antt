@@ -1,4 +1,4 @@
--- A table holds the nodes of a list, and its answers are those of the list. Assumes nothing.
+-- What it is for a table to hold the nodes of a list.
 use mathlib.Core.Bool.{cond}
 use mathlib.Core.Path.{_≡_}
 use mathlib.Core.Logic.{_⊎_}

@@ -113,7 +113,8 @@ pub fn get_or_insert(
     n
 }
 
-// The number of nodes with the one whose number was got, of which there were n.
+// How many nodes there are once `get_or_insert` has answered `number`: n + 1 where the point was new (`number` is n),
+// else n.
 pub fn count_with(n: usize, number: usize) -> usize
     requires { ⌜ n ≤ mostNodes ⌝ }
     ensures { λ r. ⌜ r ≡ countWith n number ⌝ }

@@ -1,4 +1,4 @@
--- Degrees by one pass over the edges. Assumes nothing.
+-- Degrees by one pass over the edges.
 use mathlib.Core.Path.{_≡_}
 use mathlib.Core.List.{List}
 use Prim.Native.Nat.{ℕ, _+_, _*_, _≤_, _<_}

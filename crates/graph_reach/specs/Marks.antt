@@ -1,4 +1,4 @@
--- Marked nodes, in a queue in the order in which they were marked. Assumes nothing.
+-- Marked nodes, in a queue in the order in which they were marked.
 use mathlib.Core.Path.{_≡_}
 use mathlib.Core.List.{List, [], _∷_, map}
 use mathlib.Core.Bool.{Bool, true, false, cond}

@@ -1,4 +1,4 @@
--- Whether the marks are on every node. Assumes nothing.
+-- Whether the marks are on every node.
 use mathlib.Core.Path.{_≡_}
 use mathlib.Core.List.{List}
 use mathlib.Core.Bool.{Bool, true, false}

@@ -6,7 +6,7 @@ use lib.ListN.{length, getD}
 use lib.Dec.{eqb, ltb}
 use lib.Ieee.{Float}
 use Rattle.length.specs.Root.{lengthOf, rootOver}
-use Rattle.drawing_spec.specs.Drawing.{Point, same, Drawing}
+use Rattle.drawing_spec.specs.Drawing.{Point, noPoint, same, Drawing}
 use Rattle.graph_spec.specs.Pieces.{Stroke, piecesOf, linksOf, strokesOf, usesOf}
 use Rattle.graph_spec.specs.Chain.{squared}
 
@@ -19,9 +19,6 @@ find p (q ∷ qs) i = elim (same p q) [ true ↦ i | false ↦ find p qs (suc i)
 
 abbrev pub nodeOf : List Point → Point → ℕ
 nodeOf ns p = find p ns 0
-
-abbrev pub noPoint : Point
-noPoint = record { x = 0; y = 0 }
 
 abbrev pub pointAt : List Point → ℕ → Point
 pointAt ns v = getD ns v noPoint

@@ -15,9 +15,9 @@ points xs ys = record { xs = xs; ys = ys }
 abbrev pub pointIn : Points → ℕ → Point
 pointIn ps i = at (getD (ps .xs) i 0) (getD (ps .ys) i 0)
 
--- a place that lengths can be made of
-abbrev pub Low : Point → Type 0
-Low p = (p .x ≤ 2 ^ 24) × (p .y ≤ 2 ^ 24)
+-- a point whose distances `length::squared` takes
+abbrev pub Measurable : Point → Type 0
+Measurable p = (p .x ≤ 2 ^ 24) × (p .y ≤ 2 ^ 24)
 
-pub record LowPoints (ps : Points) : Type 0 where
-  pub low : (i : ℕ) → Low (pointIn ps i)
+pub record MeasurablePoints (ps : Points) : Type 0 where
+  pub low : (i : ℕ) → Measurable (pointIn ps i)

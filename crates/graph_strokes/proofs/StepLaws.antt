@@ -16,7 +16,7 @@ use Rattle.graph_nodes.proofs.Table.{number-low}
 use Rattle.graph_nodes.specs.Held.{Held}
 use Rattle.graph_nodes.proofs.Held.{held-none, held-room, get-or-insert, counted}
 use Rattle.graph_adjacency.specs.Lists.{Adjacency, noEdges, lists}
-use Rattle.graph_strokes.specs.Trace.{Drawn, drawnAs, drawn}
+use Rattle.graph_strokes.specs.Trace.{Drawn, drawnAs, withStroke}
 use Rattle.graph_strokes.proofs.Trace.{drawn-lists}
 use Rattle.graph_strokes.specs.Step.{NodeReady, Numbered, Traced, TracedTo, begun, numbered, numbering, stepped, traced}
 
@@ -37,11 +37,11 @@ module _ (q : Point) (s : Traced) (k : Numbered) (is : k ≡ numbering q (s .nod
   unfolding begun
   begin-is m' e = ap (λ (m : ℕ). traced (k .table) (s .edges) (k .count) m (k .node)) e ∙ ap (λ (j : Numbered). traced (j .table) (s .edges) (j .count) (s .edgeCount) (j .node)) is
 
-  pub step-is : (p : Point) (m' : ℕ) (g' : Adjacency) → drawnAs m' g' ≡ drawn (s .edgeCount) (s .node) (k .node) p q (s .edges) → traced (k .table) g' (k .count) m' (k .node) ≡ stepped p q s
+  pub step-is : (p : Point) (m' : ℕ) (g' : Adjacency) → drawnAs m' g' ≡ withStroke (s .edgeCount) (s .node) (k .node) p q (s .edges) → traced (k .table) g' (k .count) m' (k .node) ≡ stepped p q s
   unfolding stepped
   step-is p m' g' e =
       ap (λ (d : Drawn). traced (k .table) (d .edges) (k .count) (d .count) (k .node)) e
-      ∙ ap (λ (j : Numbered). let d = drawn (s .edgeCount) (s .node) (j .node) p q (s .edges) in traced (j .table) (d .edges) (j .count) (d .count) (j .node)) is
+      ∙ ap (λ (j : Numbered). let d = withStroke (s .edgeCount) (s .node) (j .node) p q (s .edges) in traced (j .table) (d .edges) (j .count) (d .count) (j .node)) is
 
 -- a node keeps its number
 node-kept : (ns : List Point) (p q : Point) → nodeOf ns p < length ns → nodeOf (getOrInsert ns q) p ≡ nodeOf ns p
@@ -78,11 +78,11 @@ module _ (ns : List Point) (es : List Edge) (p q : Point) (s : Traced) (T : Trac
   step-traced h =
       let ns' = getOrInsert ns q in
       let es' = es ++ map (edgeOf ns') (pieces p (q ∷ [])) in
-      let drew : drawn (s .edgeCount) (s .node) v p q (s .edges) ≡ drawnAs (length es') (lists es') =
-      ap (λ (m : ℕ). drawn m (s .node) v p q (s .edges)) (T .edges-counted)
-      ∙ ap (λ (u : ℕ). drawn (length es) u v p q (s .edges)) (T .node-is ∙ sym (node-kept ns p q h))
-      ∙ ap (λ (u : ℕ). drawn (length es) (nodeOf ns' p) u p q (s .edges)) v-is
-      ∙ ap (drawn (length es) (nodeOf ns' p) (nodeOf ns' q) p q) (T .edges-held) ∙ drawn-lists ns' es p q in
+      let drew : withStroke (s .edgeCount) (s .node) v p q (s .edges) ≡ drawnAs (length es') (lists es') =
+      ap (λ (m : ℕ). withStroke m (s .node) v p q (s .edges)) (T .edges-counted)
+      ∙ ap (λ (u : ℕ). withStroke (length es) u v p q (s .edges)) (T .node-is ∙ sym (node-kept ns p q h))
+      ∙ ap (λ (u : ℕ). withStroke (length es) (nodeOf ns' p) u p q (s .edges)) v-is
+      ∙ ap (withStroke (length es) (nodeOf ns' p) (nodeOf ns' q) p q) (T .edges-held) ∙ drawn-lists ns' es p q in
       record {
         nodes-held = table-held;
         nodes-counted = count-is;

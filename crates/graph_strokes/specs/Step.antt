@@ -1,4 +1,4 @@
--- A step from one point of a drawing to the next: the next point's node, and the edge of the stroke to it. Assumes nothing.
+-- A step from one point of a drawing to the next: the next point's node, and the edge of the stroke to it.
 use mathlib.Core.Path.{_≡_}
 use mathlib.Core.List.{List}
 use Prim.Native.Nat.{ℕ, _≤_, _<_}
@@ -7,12 +7,12 @@ use lib.Ieee.{Float}
 use Rattle.limits.specs.Limits.{mostNodes, edgeRoom}
 use Rattle.drawing_spec.specs.Drawing.{Point}
 use Rattle.graph_spec.specs.Graph.{Edge, nodeOf}
-use Rattle.graph_splits.specs.Points.{Low}
+use Rattle.graph_splits.specs.Points.{Measurable}
 use Rattle.graph_nodes.specs.Table.{Table, table, HasRoom, numberIn, tableWith, countWith}
 use Rattle.graph_nodes.specs.Held.{Held}
 use Rattle.graph_adjacency.specs.Lists.{Adjacency, adjacency, lists}
 use Rattle.graph_strokes.specs.declared.Trail.{Trail}
-use Rattle.graph_strokes.specs.Trace.{drawn}
+use Rattle.graph_strokes.specs.Trace.{withStroke}
 
 -- ---- a point's node
 
@@ -56,7 +56,7 @@ unfoldable pub stepped : Point → Point → Traced → Traced
 unfolding numbering
 stepped p q s =
     let k = numbering q (s .nodeCount) (s .table) in
-    let d = drawn (s .edgeCount) (s .node) (k .node) p q (s .edges) in
+    let d = withStroke (s .edgeCount) (s .node) (k .node) p q (s .edges) in
     traced (k .table) (d .edges) (k .count) (d .count) (k .node)
 
 -- on to q, with nothing drawn: the first point of a line, or of a link
@@ -69,8 +69,8 @@ pub record StepReady (p q : Point) (s : Traced) : Type 0 where
   pub node-ready : NodeReady q (s .nodeCount) (s .table)
   pub edges-fit : s .edgeCount < edgeRoom
   pub node-fits : s .node < mostNodes
-  pub from-low : Low p
-  pub to-low : Low q
+  pub from-low : Measurable p
+  pub to-low : Measurable q
 
 -- ---- what it means for the nodes and the edges
 

@@ -3,10 +3,10 @@ ghost use mathlib.Core.Path.{_≡_};
 ghost use Prim.Native.Nat.{_<_};
 ghost use Rattle.limits.specs.Limits.{mostNodes, edgeRoom};
 ghost use Rattle.graph_splits.specs.Next.{at};
-ghost use Rattle.graph_splits.specs.Points.{Low};
+ghost use Rattle.graph_splits.specs.Points.{Measurable};
 ghost use Rattle.graph_adjacency.specs.Lists.{adjacency};
 ghost use Rattle.graph_nodes.specs.Table.{table};
-ghost use Rattle.graph_strokes.specs.Trace.{drawn, drawnAs};
+ghost use Rattle.graph_strokes.specs.Trace.{withStroke, drawnAs};
 ghost use Rattle.graph_strokes.specs.Step.{numbered, numbering, NodeReady, tracedIn, stepped, StepReady};
 use graph_nodes::BUCKETS;
 use limits::ARC_ROOM;
@@ -29,8 +29,8 @@ pub fn draw(
     qy: u32,
 ) -> usize
     requires room { ⌜ (m < edgeRoom) × (u < mostNodes) × (v < mostNodes) ⌝ }
-    requires places { ⌜ Low (at px py) × Low (at qx qy) ⌝ }
-    ensures { λ r. ⌜ drawnAs r (adjacency (now (ends .exit)) (now (weights .exit)) (now (next .exit)) (now (heads .exit))) ≡ drawn m u v (at px py) (at qx qy) (adjacency (now (ends .entry)) (now (weights .entry)) (now (next .entry)) (now (heads .entry))) ⌝ }
+    requires places { ⌜ Measurable (at px py) × Measurable (at qx qy) ⌝ }
+    ensures { λ r. ⌜ drawnAs r (adjacency (now (ends .exit)) (now (weights .exit)) (now (next .exit)) (now (heads .exit))) ≡ withStroke m u v (at px py) (at qx qy) (adjacency (now (ends .entry)) (now (weights .entry)) (now (next .entry)) (now (heads .entry))) ⌝ }
 {
     let one = graph_splits::same_place(px, py, qx, qy);
     if one {
@@ -49,7 +49,8 @@ pub struct Trail {
     pub node: usize,
 }
 
-// To q, with nothing drawn: q's node, which is added where it is new.
+// To q, with nothing drawn: q's node, which is added where it is new. Of the answer's three parts, `nodes` counts the node
+// in if it is new, `edges` is what it was, and `node` is the number of q's node.
 pub fn begin(
     xs: &mut [u32; MOST_NODES],
     ys: &mut [u32; MOST_NODES],

@@ -2,5 +2,5 @@
 -- Definitions, and what nearest means:
 pub mod Root
 pub mod Nearest
--- Laws. Length has what others use.
+-- what a step towards the root leaves:
 pub mod Steps

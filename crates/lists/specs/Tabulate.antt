@@ -1,4 +1,4 @@
--- The list of f i, f (i + 1), and so on. Assumes nothing.
+-- The list of f i, f (i + 1), and so on.
 use mathlib.Core.List.{List, [], _∷_}
 use Prim.Native.Nat.{ℕ, zero, suc}
 

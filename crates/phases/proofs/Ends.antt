@@ -11,8 +11,8 @@ use lib.Ieee.{Float, binary64, add}
 use borrow.Author.Tests.{eq-eqb, ne-eqb}
 use Rattle.limits.specs.Limits.{mostEdges, refusedEdges, lineRoom}
 use Rattle.drawing_spec.specs.Drawing as drawn
-use Rattle.drawing_spec.specs.Drawing.{Point}
-use Rattle.graph_spec.specs.Graph.{Edge, Graph, noPoint, pointAt}
+use Rattle.drawing_spec.specs.Drawing.{Point, noPoint}
+use Rattle.graph_spec.specs.Graph.{Edge, Graph, pointAt}
 use Rattle.graph_spec.specs.Odd.{oddNodes}
 use Rattle.graph_adjacency.specs.Lists.{Adjacency}
 use Rattle.graph_arrays.specs.Arrays.{pointIn, edgeIn, nodesIn, edgesIn, graphIn, EdgesHeld, Front}

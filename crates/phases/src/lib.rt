@@ -1,15 +1,15 @@
 // What each phase of the planner makes of a graph that stands in arrays, for timing (crates/phases_c): told by two counts
 // and a length, so that no phase's work can be left out.
 ghost use mathlib.Core.Path.{_≡_};
-ghost use Prim.Native.Nat.{ℕ, _<_, _≤_};
-ghost use lib.ListN.{length, getD};
+ghost use Prim.Native.Nat.{_<_, _≤_};
+ghost use lib.ListN.{length};
 ghost use lib.Ieee.{binary64, add};
 ghost use Rattle.limits.specs.Limits.{mostSide, mostPairs};
 ghost use Rattle.file_records.specs.Meaning.{settingsOf};
 ghost use Rattle.graph_adjacency.specs.Lists.{adjacency};
 ghost use Rattle.graph_arrays.specs.Arrays.{nodesIn, edgesIn, graphIn, NodesHeld, EdgesHeld, EdgesLinked};
 ghost use Rattle.repair_spec.specs.Distance.{zeroLength, distanceAt, distances};
-ghost use Rattle.repair_spec.specs.PairsIn.{pairsIn};
+ghost use Rattle.repair_spec.specs.PairsIn.{pairsIn, PairsAmong};
 ghost use Rattle.repair_search.specs.Touched.{Unreached};
 ghost use Rattle.walk_spec.specs.Line.{lineOf};
 ghost use Rattle.planner_graph.specs.Answer.{Plannable};
@@ -141,7 +141,7 @@ fn search_pairs(
     seconds: &[u16; MOST_PAIRS],
     pairs: usize,
 ) -> f64
-    requires { ⌜ (pairs ≤ mostPairs) × ((j : ℕ) → j < pairs → (getD (now firsts) j 0 < n) × (getD (now seconds) j 0 < n)) ⌝ }
+    requires { ⌜ (pairs ≤ mostPairs) × PairsAmong n (now firsts) (now seconds) pairs ⌝ }
     requires { ⌜ EdgesHeld n m (adjacency (now ends) (now weights) (now next) (now heads)) ⌝ }
     ensures { λ r. ⌜ r ≡ searched n (edgesIn m (adjacency (now (ends .entry)) (now (weights .entry)) (now (next .entry)) (now (heads .entry)))) (pairsIn (now (firsts .entry)) (now (seconds .entry)) 0 pairs) zeroLength ⌝ }
 {

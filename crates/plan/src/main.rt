@@ -5,7 +5,7 @@ ghost use Prim.Native.Nat.{_+_, _≤_};
 ghost use lib.ListN.{length};
 ghost use lib.Ieee.{binary64};
 ghost use Rattle.sums.specs.Key.{Nonneg};
-ghost use Rattle.planner_graph.specs.Answer.{Number};
+ghost use Rattle.planner_graph.specs.Answer.{RetraceNonneg};
 
 // A file of more than 65,536 bytes is refused, so that one byte more is enough of it.
 const FILE_ROOM: usize = 65_537;
@@ -86,7 +86,7 @@ fn print_counts(bits: u64, before: usize, after: usize, count: usize) {
 }
 
 fn print_answer(answer: Answer, output: &[u8])
-    requires { ⌜ Number answer ⌝ }
+    requires { ⌜ RetraceNonneg answer ⌝ }
 {
     match answer {
         Answer::Refused(number) => print_refusal(number),

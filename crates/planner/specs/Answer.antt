@@ -18,5 +18,5 @@ after r floats bytes output = record { answer = answerOf r; output = output; flo
 
 -- Demand 3 of the output's bytes before and after the call, where the file was planned.
 abbrev pub DemandMet : Answer → List ℕ → List ℕ → List ℕ → Type 0
-DemandMet (Refused k) file before after = Unit
-DemandMet (Planned x odd left points) file before after = Demand3 (drawingIn file) before after
+DemandMet (Refused k) file outputBefore outputAfter = Unit
+DemandMet (Planned retrace before after points) file outputBefore outputAfter = Demand3 (drawingIn file) outputBefore outputAfter

@@ -17,7 +17,8 @@ pub struct Outcome {
     pub points: usize,
 }
 
-// Plans a drawing file, whatever bytes it holds: `plan_file` of crates/planner, with the same promises.
+// Plans a drawing file, whatever bytes it holds: `plan_file` of crates/planner, with its answer, output and tables, and
+// demand 3. That the retrace is no NaN has no clause: the answer has the f64 whose bits the definition gives.
 #[no_mangle]
 pub extern "C" fn plan(
     file: &[u8],

@@ -106,7 +106,7 @@ module _ (g : Graph) (s : Settings) (lent : plan.Lent) where
 
   module _ (reached : allReached (length (g .nodes)) (g .edges) ≡ true) where
     pub refused-planned : (k : ℕ) → refusal k ≡ parity → plan.planGraph g s lent ≡ plan.refuse k lent
-    unfolding verdict plan.oddOf
+    unfolding verdict plan.oddCount
     refused-planned k e = go (tooManyOdd mostOdd s (odd (g .edges))) (tableShort mostOdd s (odd (g .edges)) (lent .floats) (lent .bytes)) refl refl
       where
         number : Value → ℕ
@@ -134,13 +134,13 @@ module _ (g : Graph) (s : Settings) (lent : plan.Lent) where
       line-for = line-repaired g s (M .repair) (M .repairs) ∙ ap (lineOf s (g .nodes)) (M .edges-are) ∙ sym line-is
 
       pub short-planned : ltb (length (lent .output)) (6 + 16 * length line) ≡ true → plan.planGraph g s lent ≡ plan.refuse refusedOutput lent
-      unfolding plan.oddOf
+      unfolding plan.oddCount
       short-planned h =
           plan-output g s lent reached (M .few) (M .long) (M .repair) (M .repairs) (ap (λ (l : List Point). ltb (length (lent .output)) (6 + 16 * length l)) line-for ∙ h)
 
       pub line-planned : ltb (length (lent .output)) (6 + 16 * length line) ≡ false
           → plan.planGraph g s lent ≡ record { answer = plan.planned (record { retrace = toBits binary64 x; before = before; after = after; points = length line }); output = inFront (lineRecord line) (lent .output) }
-      unfolding plan.oddOf
+      unfolding plan.oddCount
       line-planned h =
           let open-room = ap (λ (l : List Point). ltb (length (lent .output)) (6 + 16 * length l)) line-for ∙ h in
           let answer = answer-repaired g s (M .repair) (M .repairs) in

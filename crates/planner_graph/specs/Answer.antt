@@ -21,10 +21,10 @@ answerOf (Planned x before after points) = plan.planned (record { retrace = toBi
 abbrev pub outcomeOf : Answer → List ℕ → plan.Outcome
 outcomeOf r output = record { answer = answerOf r; output = output }
 
--- a retrace's length is no NaN and not below 0
-abbrev pub Number : Answer → Type 0
-Number (Refused k) = Unit
-Number (Planned x before after points) = Nonneg binary64 x
+-- the length of the retraces is no NaN and not negative, so that its bits can be taken
+abbrev pub RetraceNonneg : Answer → Type 0
+RetraceNonneg (Refused k) = Unit
+RetraceNonneg (Planned x before after points) = Nonneg binary64 x
 
 -- what is lent: the lengths of the two tables, and the output's bytes
 abbrev pub lent : List Float → List ℕ → List ℕ → plan.Lent

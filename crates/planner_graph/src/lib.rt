@@ -4,7 +4,7 @@ ghost use Rattle.file_records.specs.Meaning.{settingsOf};
 ghost use Rattle.graph_adjacency.specs.Lists.{adjacency};
 ghost use Rattle.graph_arrays.specs.Arrays.{graphIn};
 ghost use Rattle.planner_spec.specs.Plan.{planGraph};
-ghost use Rattle.planner_graph.specs.Answer.{outcomeOf, Number, lent, Plannable};
+ghost use Rattle.planner_graph.specs.Answer.{outcomeOf, RetraceNonneg, lent, Plannable};
 use file_records::Settings;
 use limits::ARC_ROOM;
 use limits::EDGE_ROOM;
@@ -40,7 +40,7 @@ pub fn plan_graph(
 ) -> Answer
     requires graph { ⌜ Plannable settings n m (now xs) (now ys) (adjacency (now ends) (now weights) (now next) (now heads)) ⌝ }
     ensures outcome { λ r. ⌜ outcomeOf r (now (output .exit)) ≡ planGraph (graphIn n m (now (xs .entry)) (now (ys .entry)) (adjacency (now (ends .entry)) (now (weights .entry)) (now (next .entry)) (now (heads .entry)))) (settingsOf settings) (lent (now (floats .entry)) (now (bytes .entry)) (now (output .entry))) ⌝ }
-    ensures number { λ r. ⌜ Number r ⌝ }
+    ensures retrace { λ r. ⌜ RetraceNonneg r ⌝ }
 {
     let reached = graph_reach::all_reached(ends, weights, next, heads, n, m);
     if !reached {

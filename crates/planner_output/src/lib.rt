@@ -19,7 +19,8 @@ pub enum Emitted {
     Short,
 }
 
-// Writes the line of m edges between n nodes. Where it does not fit, nothing is written.
+// Writes the line of m edges between n nodes. Where it does not fit, nothing is written. What the arrays of the edges
+// hold afterwards is left open.
 pub fn emit_line(
     xs: &[u32; MOST_NODES],
     ys: &[u32; MOST_NODES],

@@ -33,7 +33,7 @@ use Rattle.repair_early_exit.proofs.Never.{OnePiece, Sound, reached-one-piece, 
 use Rattle.planner_spec.specs.Plan.{Lent, Planned, planned, drawingIn, repairOf, plan}
 use Rattle.planner_spec.proofs.Plan.{drawn as drawn-plan, file-planned, drawing-graph}
 use Rattle.planner_searches.specs.Searches as searches
-use Rattle.planner_searches.specs.Searches.{oddOf, PairSearch, first, later, beforeClosing, RepairSearch, LeastFinite, Searches}
+use Rattle.planner_searches.specs.Searches.{oddListOf, PairSearch, first, later, beforeClosing, RepairSearch, LeastFinite, Searches}
 use Rattle.planner_searches.proofs.Files.{graph-searchable}
 
 -- a graph that can be searched, in one piece
@@ -56,13 +56,13 @@ module _ (n : ℕ) where
 -- `fixParity` goes on with what is said to be before closing
 pub fix-is : (most number : ℕ) (g : Graph) (s : Settings) → fixParity most number g s ≡ closeIf (closing s) most number (searches.count g) (beforeClosing most number g s)
 unfolding fixParity
-fix-is most number g s = go (leb (length (oddOf g)) 2)
+fix-is most number g s = go (leb (length (oddListOf g)) 2)
   where
     n : ℕ
     n = searches.count g
 
-    go : (b : Bool) → _≡_ {A = Repairing} (elim b [ true ↦ closeIf (closing s) most number n (repaired (drawn g)) | false ↦ closeIf (closing s) most number n (applyMatching most number n (pairsOf g s (oddOf g)) (drawn g)) ])
-        (closeIf (closing s) most number n (elim b [ true ↦ repaired (drawn g) | false ↦ applyMatching most number n (pairsOf g s (oddOf g)) (drawn g) ]))
+    go : (b : Bool) → _≡_ {A = Repairing} (elim b [ true ↦ closeIf (closing s) most number n (repaired (drawn g)) | false ↦ closeIf (closing s) most number n (applyMatching most number n (pairsOf g s (oddListOf g)) (drawn g)) ])
+        (closeIf (closing s) most number n (elim b [ true ↦ repaired (drawn g) | false ↦ applyMatching most number n (pairsOf g s (oddListOf g)) (drawn g) ]))
     go true = refl
     go false = refl
 
@@ -70,15 +70,15 @@ module _ (most number : ℕ) (g : Graph) (s : Settings) (G : Searchable (searche
   abbrev n : ℕ
   n = searches.count g
 
-  below : 2 < length (oddOf g) → (v : ℕ) → 0 < count v (ends (pairsOf g s (oddOf g))) → v < n
-  below many v k = odd-below n (g .edges) v (let a = pairs-of g s (oddOf g) many (handshake n (g .edges) (G .inside)) in omega (arith, a .counts v))
+  below : 2 < length (oddListOf g) → (v : ℕ) → 0 < count v (ends (pairsOf g s (oddListOf g))) → v < n
+  below many v k = odd-below n (g .edges) v (let a = pairs-of g s (oddListOf g) many (handshake n (g .edges) (G .inside)) in omega (arith, a .counts v))
 
   before-sound : (r : Repair) → beforeClosing most number g s ≡ repaired r → Searchable n (r .edges) × OnePiece n (r .edges)
-  before-sound r e = subst (Sound number n) e (go (leb (length (oddOf g)) 2) refl)
+  before-sound r e = subst (Sound number n) e (go (leb (length (oddListOf g)) 2) refl)
     where
-      go : (b : Bool) → leb (length (oddOf g)) 2 ≡ b → Sound number n (elim b [ true ↦ repaired (drawn g) | false ↦ applyMatching most number n (pairsOf g s (oddOf g)) (drawn g) ])
+      go : (b : Bool) → leb (length (oddListOf g)) 2 ≡ b → Sound number n (elim b [ true ↦ repaired (drawn g) | false ↦ applyMatching most number n (pairsOf g s (oddListOf g)) (drawn g) ])
       go true t = (G, C)
-      go false t = apply-sound most number n (pairsOf g s (oddOf g)) (drawn g) G C (below (leb-false (length (oddOf g)) 2 t))
+      go false t = apply-sound most number n (pairsOf g s (oddListOf g)) (drawn g) G C (below (leb-false (length (oddListOf g)) 2 t))
 
   pub repair-searches : {es : List Edge} {p : Pair} → RepairSearch most number g s es p → (v : ℕ) → v < n → LeastFinite es (p .from) v (distanceAt (distances n es (p .from)) v)
   unfolding count ends
@@ -92,10 +92,10 @@ module _ (most number : ℕ) (g : Graph) (s : Settings) (G : Searchable (searche
       let hu : u < n = odd-below n (r .edges) u (omega (arith, pair-of odd two u, hit-same u)) in
       least-finite n (r .edges) (a .0) (a .1) u hu v hv
 
-  pub pairing-searches : (i : ℕ) → i < length (oddOf g) → (v : ℕ) → v < n → LeastFinite (g .edges) (getD (oddOf g) i 0) v (distanceIn (rows n (g .edges) (oddOf g)) (getD (oddOf g) i 0) v)
+  pub pairing-searches : (i : ℕ) → i < length (oddListOf g) → (v : ℕ) → v < n → LeastFinite (g .edges) (getD (oddListOf g) i 0) v (distanceIn (rows n (g .edges) (oddListOf g)) (getD (oddListOf g) i 0) v)
   pairing-searches i h v hv =
-      let u = getD (oddOf g) i 0 in
-      subst (LeastFinite (g .edges) u v) (sym (row-known n (g .edges) (oddOf g) i v h)) (least-finite n (g .edges) G C u (odd-at n (g .edges) i h) v hv)
+      let u = getD (oddListOf g) i 0 in
+      subst (LeastFinite (g .edges) u v) (sym (row-known n (g .edges) (oddListOf g) i v h)) (least-finite n (g .edges) G C u (odd-at n (g .edges) i h) v hv)
 
 -- For every file that passes checks 1 to 9
 pub file-searches : (file : List ℕ) → Fits file → allReached (length (buildGraph (drawingIn file) .nodes)) (buildGraph (drawingIn file) .edges) ≡ true → Searches file

@@ -23,8 +23,8 @@ use Rattle.planner_spec.specs.Plan.{drawingIn, repairOf}
 abbrev pub count : Graph → ℕ
 count g = length (g .nodes)
 
-abbrev pub oddOf : Graph → List ℕ
-oddOf g = oddNodes (count g) (g .edges)
+abbrev pub oddListOf : Graph → List ℕ
+oddListOf g = oddNodes (count g) (g .edges)
 
 -- `applyMatching` retraces the pairs ps on r, and searches the edges es for the pair p
 pub data PairSearch (n : ℕ) : List Pair → Repair → List Edge → Pair → Type 0 where
@@ -34,11 +34,11 @@ pub data PairSearch (n : ℕ) : List Pair → Repair → List Edge → Pair → 
 
 -- what `fixParity` closes, where the line is to be closed
 abbrev pub beforeClosing : ℕ → ℕ → Graph → Settings → Repairing
-beforeClosing most number g s = elim (leb (length (oddOf g)) 2) [ true ↦ repaired (drawn g) | false ↦ applyMatching most number (count g) (pairsOf g s (oddOf g)) (drawn g) ]
+beforeClosing most number g s = elim (leb (length (oddListOf g)) 2) [ true ↦ repaired (drawn g) | false ↦ applyMatching most number (count g) (pairsOf g s (oddListOf g)) (drawn g) ]
 
 -- `fixParity` searches the edges es for the pair p, in a retrace or to close the line
 pub data RepairSearch (most number : ℕ) (g : Graph) (s : Settings) : List Edge → Pair → Type 0 where
-  retrace : {es : List Edge} {p : Pair} → 2 < length (oddOf g) → PairSearch (count g) (pairsOf g s (oddOf g)) (drawn g) es p → RepairSearch most number g s es p
+  retrace : {es : List Edge} {p : Pair} → 2 < length (oddListOf g) → PairSearch (count g) (pairsOf g s (oddListOf g)) (drawn g) es p → RepairSearch most number g s es p
   close : {r : Repair} → closing s ≡ true → beforeClosing most number g s ≡ repaired r → length (oddNodes (count g) (r .edges)) ≡ 2
       → RepairSearch most number g s (r .edges) (pair (getD (oddNodes (count g) (r .edges)) 0 0) (getD (oddNodes (count g) (r .edges)) 1 0))
 
@@ -52,7 +52,7 @@ pub record Searches (file : List ℕ) : Type 0 where
   pub of-repair : {es : List Edge} {p : Pair} → RepairSearch mostEdges refusedEdges (buildGraph (drawingIn file)) (drawingIn file .settings) es p
       → (v : ℕ) → v < count (buildGraph (drawingIn file)) → LeastFinite es (p .from) v (distanceAt (distances (count (buildGraph (drawingIn file))) es (p .from)) v)
   -- the distances that Optimal pairs by, from the odd node at the place i
-  pub of-pairing : (i : ℕ) → i < length (oddOf (buildGraph (drawingIn file))) → (v : ℕ) → v < count (buildGraph (drawingIn file))
-      → LeastFinite (buildGraph (drawingIn file) .edges) (getD (oddOf (buildGraph (drawingIn file))) i 0) v (distanceIn (rows (count (buildGraph (drawingIn file))) (buildGraph (drawingIn file) .edges) (oddOf (buildGraph (drawingIn file)))) (getD (oddOf (buildGraph (drawingIn file))) i 0) v)
+  pub of-pairing : (i : ℕ) → i < length (oddListOf (buildGraph (drawingIn file))) → (v : ℕ) → v < count (buildGraph (drawingIn file))
+      → LeastFinite (buildGraph (drawingIn file) .edges) (getD (oddListOf (buildGraph (drawingIn file))) i 0) v (distanceIn (rows (count (buildGraph (drawingIn file))) (buildGraph (drawingIn file) .edges) (oddListOf (buildGraph (drawingIn file)))) (getD (oddListOf (buildGraph (drawingIn file))) i 0) v)
   -- after repair there is one edge more for each step of each retrace
   pub copies : (r : Repair) → repairOf (buildGraph (drawingIn file)) (drawingIn file .settings) ≡ repaired r → length (r .edges) ≡ length (buildGraph (drawingIn file) .edges) + sumOver (λ (way : List ℕ). length way - 1) (r .retraces)

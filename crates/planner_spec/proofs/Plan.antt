@@ -18,7 +18,7 @@ use Rattle.graph_spec.specs.Reach.{allReached}
 use Rattle.repair_spec.specs.Repair.{Repair, Repairing, stopped, repaired, tooManyOdd, tableShort}
 use Rattle.repair_spec.proofs.Stops.{stops}
 use Rattle.walk_spec.specs.Line.{lineOf}
-use Rattle.planner_spec.specs.Plan.{Lent, Planned, refusal, planned, Outcome, drawingIn, oddOf, repairOf, stoppedBy, lineFor, planConditions, answerFor, refuse, accept, planGraph, planDrawing, plan}
+use Rattle.planner_spec.specs.Plan.{Lent, Planned, refusal, planned, Outcome, drawingIn, oddCount, repairOf, stoppedBy, lineFor, planConditions, answerFor, refuse, accept, planGraph, planDrawing, plan}
 
 -- ---- a file
 
@@ -50,7 +50,7 @@ module _ (g : Graph) (s : Settings) where
     unfolding lineFor
     line-repaired = rw is
 
-    pub answer-repaired : answerFor g s ≡ record { retrace = toBits binary64 (r .sum); before = oddOf g (g .edges); after = oddOf g (r .edges); points = length (lineOf s (g .nodes) (r .edges)) }
+    pub answer-repaired : answerFor g s ≡ record { retrace = toBits binary64 (r .sum); before = oddCount g (g .edges); after = oddCount g (r .edges); points = length (lineOf s (g .nodes) (r .edges)) }
     unfolding answerFor lineFor
     answer-repaired = rw is
 
@@ -75,10 +75,10 @@ module _ (g : Graph) (s : Settings) (lent : Lent) where
   Reached b = allReached (length (g .nodes)) (g .edges) ≡ b
 
   abbrev pub ManyOdd : Bool → Type 0
-  ManyOdd b = tooManyOdd mostOdd s (oddOf g (g .edges)) ≡ b
+  ManyOdd b = tooManyOdd mostOdd s (oddCount g (g .edges)) ≡ b
 
   abbrev pub ShortTables : Bool → Type 0
-  ShortTables b = tableShort mostOdd s (oddOf g (g .edges)) (lent .floats) (lent .bytes) ≡ b
+  ShortTables b = tableShort mostOdd s (oddCount g (g .edges)) (lent .floats) (lent .bytes) ≡ b
 
   abbrev pub ShortOutput : Bool → Type 0
   ShortOutput b = ltb (length (lent .output)) (6 + 16 * length (lineFor g s)) ≡ b

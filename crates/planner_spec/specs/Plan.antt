@@ -26,9 +26,9 @@ pub record Lent : Type 0 where
 -- ---- the parts of an answer, for any graph and settings; they mean something where no condition holds
 
 -- how many nodes of the graph are odd, with these edges
-unfoldable pub oddOf : Graph → List Edge → ℕ
+unfoldable pub oddCount : Graph → List Edge → ℕ
 unfolding oddFrom
-oddOf g es = length (oddNodes (length (g .nodes)) es)
+oddCount g es = length (oddNodes (length (g .nodes)) es)
 
 unfoldable pub repairOf : Graph → Settings → Repairing
 unfolding fixParity
@@ -49,9 +49,9 @@ lineFor g s = lineOf s (g .nodes) (repairOr g (repairOf g s) .edges)
 -- ---- conditions 9 to 14, in document 01's order
 
 unfoldable pub planConditions : Graph → Settings → Lent → List Condition
-unfolding oddOf repairOf lineFor allReached tooManyOdd tableShort
+unfolding oddCount repairOf lineFor allReached tooManyOdd tableShort
 planConditions g s lent =
-    let odd = oddOf g (g .edges) in
+    let odd = oddCount g (g .edges) in
     let r = repairOf g s in
     condition refusedApart (not (allReached (length (g .nodes)) (g .edges)))
     ∷ condition refusedOdd (tooManyOdd mostOdd s odd)
@@ -79,10 +79,10 @@ pub record Outcome : Type 0 where
 
 -- the values of an accepted call; the retrace by its f64's bits
 unfoldable pub answerFor : Graph → Settings → Planned
-unfolding oddOf repairOf lineFor toBits
+unfolding oddCount repairOf lineFor toBits
 answerFor g s =
     let r = repairOr g (repairOf g s) in
-    record { retrace = toBits binary64 (r .sum); before = oddOf g (g .edges); after = oddOf g (r .edges); points = length (lineFor g s) }
+    record { retrace = toBits binary64 (r .sum); before = oddCount g (g .edges); after = oddCount g (r .edges); points = length (lineFor g s) }
 
 -- a refusal leaves the output's bytes
 abbrev pub refuse : ℕ → Lent → Outcome
@@ -125,7 +125,7 @@ pub record After : Type 0 where
 abbrev pub lentTo : Call → Lent
 lentTo c = record { floats = length (c .floats); bytes = length (c .bytes); output = c .output }
 
--- both work tables are zero after every call
+-- what a call answers and leaves: the plan's answer and output, and both tables zero
 unfoldable pub called : List ℕ → Call → After
 unfolding plan
 called file c =

@@ -17,10 +17,10 @@ use Rattle.repair_spec.specs.Distance.{zeroLength}
 use Rattle.repair_spec.specs.Pairing.{Pair}
 use Rattle.repair_spec.specs.PairsIn.{pairsIn, PairRoom}
 use Rattle.repair_spec.specs.Repair.{Repairing, pairsOf, applyMatching, closeIf, fixParity}
-use Rattle.repair_retrace.specs.Outcome.{Outcome, outcome, under}
+use Rattle.repair_retrace.specs.Outcome.{RepairOutcome, outcome, soFar}
 use Rattle.repair_retrace.specs.Answer.{outcomeIn, HeldAfter}
 use Rattle.repair_retrace.specs.declared.Applied.{Applied}
-use Rattle.repair_retrace.specs.declared.Applied.the-variants.{Repaired, Refused}
+use Rattle.repair_retrace.specs.declared.Applied.the-variants.{Laid, Refused}
 use Rattle.repair_pairs.specs.Refusal.{tableConditions}
 use Rattle.repair_pairs.specs.Pairs as found
 use Rattle.repair_pairs.specs.Meaning.{foundIn}
@@ -102,18 +102,18 @@ module _ (most number n m : ℕ) (xs ys : List ℕ) (a : Adjacency) (E : EdgesHe
       pairs-usable n (E .edges .few-nodes) (edgesIn m a) (E .edges .inside) (graphIn n m xs ys a) s count fs ss (ps ∙ ap (pairsOf (graphIn n m xs ys a) s) same-odd)
 
   retraced : Repairing
-  retraced = closeIf (closing s) most number n (applyMatching most number n (pairsIn fs ss 0 count) (under (edgesIn m a) zeroLength))
+  retraced = closeIf (closing s) most number n (applyMatching most number n (pairsIn fs ss 0 count) (soFar (edgesIn m a) zeroLength))
 
   retraced-is : retraced ≡ fixParity most number (graphIn n m xs ys a) s
   unfolding retraced oddOf
   retraced-is =
       let ps = found-is (graphIn n m xs ys a) s floats bytes odd _ F .1 in
-      ap (λ (qs : List Pair). closeIf (closing s) most number n (applyMatching most number n qs (under (edgesIn m a) zeroLength))) ps
-      ∙ ap (λ (k : ℕ). closeIf (closing s) most number k (applyMatching most number k (pairsOf (graphIn n m xs ys a) s (oddOf (graphIn n m xs ys a))) (under (edgesIn m a) zeroLength))) (sym (nodes-count n xs ys))
+      ap (λ (qs : List Pair). closeIf (closing s) most number n (applyMatching most number n qs (soFar (edgesIn m a) zeroLength))) ps
+      ∙ ap (λ (k : ℕ). closeIf (closing s) most number k (applyMatching most number k (pairsOf (graphIn n m xs ys a) s (oddOf (graphIn n m xs ys a))) (soFar (edgesIn m a) zeroLength))) (sym (nodes-count n xs ys))
       ∙ sym (fix-parity-is most number (graphIn n m xs ys a) s)
 
   -- what the retraces leave is the answer
-  pub parity-retraced : (o : Outcome) → o ≡ outcome (closeIf (closing s) most number n (applyMatching most number n (pairsIn fs ss 0 count) (under (edgesIn m a) zeroLength)))
+  pub parity-retraced : (o : RepairOutcome) → o ≡ outcome (closeIf (closing s) most number n (applyMatching most number n (pairsIn fs ss 0 count) (soFar (edgesIn m a) zeroLength)))
       → valueOf n odd o ≡ parityFor most number (graphIn n m xs ys a) s floats bytes
   unfolding retraced
   parity-retraced o e =
@@ -129,7 +129,7 @@ module _ (n before : ℕ) (a : Adjacency) (laid : Applied) where
   pub counted-refused : (k : ℕ) → laid ≡ Refused k → refusal k ≡ valueOf n before (outcomeIn laid a)
   counted-refused k e = ap (λ (l : Applied). valueOf n before (outcomeIn l a)) (sym e)
 
-  module _ (x : Float) (m : ℕ) (is : laid ≡ Repaired x m) where
+  module _ (x : Float) (m : ℕ) (is : laid ≡ Laid x m) where
     pub counted : (after : ℕ) → after ≡ length (oddNodes n (edgesIn m a)) → values x before after (edgesIn m a) ≡ valueOf n before (outcomeIn laid a)
     counted after c = ap (λ (k : ℕ). values x before k (edgesIn m a)) c ∙ ap (λ (l : Applied). valueOf n before (outcomeIn l a)) (sym is)
 

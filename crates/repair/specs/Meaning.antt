@@ -11,6 +11,7 @@ abbrev pub caseIn : Parity → ℕ → Adjacency → Value
 caseIn (Repaired retrace before after) m a = values retrace before after (edgesIn m a)
 caseIn (Refused k) m a = refusal k
 
+-- the values that a repair answers, with its edges read off the arrays
 abbrev pub parityIn : Repair → Adjacency → Value
 parityIn r a = caseIn (r .parity) (r .edges) a
 
@@ -19,5 +20,6 @@ abbrev pub caseHeld : ℕ → Parity → ℕ → Adjacency → Type 0
 caseHeld n (Repaired retrace before after) m a = EdgesHeld n m a
 caseHeld n (Refused k) m a = Unit
 
+-- the arrays hold the repaired graph, where the repair is not refused
 abbrev pub HeldWith : ℕ → Repair → Adjacency → Type 0
 HeldWith n r a = caseHeld n (r .parity) (r .edges) a

@@ -9,7 +9,7 @@ use Rattle.graph_spec.specs.Graph.{Edge, Graph}
 use Rattle.graph_spec.specs.Odd.{oddNodes}
 use Rattle.repair_spec.specs.Repair.{fixParity}
 use Rattle.repair_retrace.specs.Outcome as repair
-use Rattle.repair_retrace.specs.Outcome.{Outcome, outcome}
+use Rattle.repair_retrace.specs.Outcome.{RepairOutcome, outcome}
 use Rattle.repair_pairs.specs.Refusal.{tableConditions}
 
 -- the number of a refusal, or: the length of the retraces, the number of odd nodes before and after, and the edges with the copies
@@ -18,7 +18,7 @@ pub data Value : Type 0 where
   values : Float → ℕ → ℕ → List Edge → Value
 
 -- document 01's values for the repair of a graph of n nodes with `before` odd ones
-abbrev pub valueOf : ℕ → ℕ → Outcome → Value
+abbrev pub valueOf : ℕ → ℕ → RepairOutcome → Value
 valueOf n before (repair.refused k) = refusal k
 valueOf n before (repair.done l) = values (l .sum) before (length (oddNodes n (l .edges))) (l .edges)
 

@@ -1,16 +1,15 @@
 // The retraces of the pairs, and then of the two nodes that they leave odd, where the line is to be closed.
 ghost use mathlib.Core.Path.{_≡_};
 ghost use mathlib.Core.Bool.{true, false};
-ghost use Prim.Native.Nat.{ℕ, _<_, _≤_};
-ghost use lib.ListN.{getD};
+ghost use Prim.Native.Nat.{_≤_};
 ghost use Rattle.limits.specs.Limits.{mostEdges, mostPairs};
 ghost use Rattle.graph_adjacency.specs.Lists.{adjacency};
 ghost use Rattle.graph_arrays.specs.Arrays.{edgesIn, EdgesHeld};
 ghost use Rattle.repair_spec.specs.Distance.{zeroLength};
-ghost use Rattle.repair_spec.specs.PairsIn.{pairsIn};
+ghost use Rattle.repair_spec.specs.PairsIn.{pairsIn, PairsAmong};
 ghost use Rattle.repair_spec.specs.Repair.{repaired, applyMatching, closeIf};
 ghost use Rattle.repair_search.specs.Touched.{Unreached};
-ghost use Rattle.repair_retrace.specs.Outcome.{under};
+ghost use Rattle.repair_retrace.specs.Outcome.{soFar};
 ghost use Rattle.repair_retrace.specs.Answer.{Answers};
 use limits::ARC_ROOM;
 use limits::EDGE_ROOM;
@@ -37,15 +36,15 @@ fn close(
 ) -> Applied
     requires { ⌜ (most ≤ mostEdges) × Unreached n (now dist) (now tree) (now touched) ⌝ }
     requires { ⌜ EdgesHeld n m (adjacency (now ends) (now weights) (now next) (now heads)) ⌝ }
-    ensures { λ r. ⌜ Answers n (closeIf closing most number n (repaired (under (edgesIn m (adjacency (now (ends .entry)) (now (weights .entry)) (now (next .entry)) (now (heads .entry)))) sum))) r (adjacency (now (ends .exit)) (now (weights .exit)) (now (next .exit)) (now (heads .exit))) ⌝ }
+    ensures { λ r. ⌜ Answers n (closeIf closing most number n (repaired (soFar (edgesIn m (adjacency (now (ends .entry)) (now (weights .entry)) (now (next .entry)) (now (heads .entry)))) sum))) r (adjacency (now (ends .exit)) (now (weights .exit)) (now (next .exit)) (now (heads .exit))) ⌝ }
 {
     if !closing {
-        return Applied::Repaired(sum, m);
+        return Applied::Laid(sum, m);
     }
     let mut odd = [0u16; MOST_NODES];
     let count = graph_odd::odd_nodes(ends, weights, next, heads, n, m, &mut odd);
     if count != 2 {
-        return Applied::Repaired(sum, m);
+        return Applied::Laid(sum, m);
     }
     let from = widen::wide(odd[0]);
     let to = widen::wide(odd[1]);
@@ -65,10 +64,10 @@ fn close(
         most,
         number,
     );
-    let Applied::Repaired(x, k) = last else {
+    let Applied::Laid(x, k) = last else {
         return last;
     };
-    Applied::Repaired(sum + x, k)
+    Applied::Laid(sum + x, k)
 }
 
 // The retraces of the pairs, one after the other, and then `close`: all searches in the same arrays. What the arrays hold after a refusal is not said.
@@ -86,9 +85,9 @@ fn retrace_all(
     most: usize,
     number: u8,
 ) -> Applied
-    requires { ⌜ (most ≤ mostEdges) × (pairs ≤ mostPairs) × ((j : ℕ) → j < pairs → (getD (now firsts) j 0 < n) × (getD (now seconds) j 0 < n)) ⌝ }
+    requires { ⌜ (most ≤ mostEdges) × (pairs ≤ mostPairs) × PairsAmong n (now firsts) (now seconds) pairs ⌝ }
     requires { ⌜ EdgesHeld n m (adjacency (now ends) (now weights) (now next) (now heads)) ⌝ }
-    ensures { λ r. ⌜ Answers n (closeIf closing most number n (applyMatching most number n (pairsIn (now (firsts .entry)) (now (seconds .entry)) 0 pairs) (under (edgesIn m (adjacency (now (ends .entry)) (now (weights .entry)) (now (next .entry)) (now (heads .entry)))) zeroLength))) r (adjacency (now (ends .exit)) (now (weights .exit)) (now (next .exit)) (now (heads .exit))) ⌝ }
+    ensures { λ r. ⌜ Answers n (closeIf closing most number n (applyMatching most number n (pairsIn (now (firsts .entry)) (now (seconds .entry)) 0 pairs) (soFar (edgesIn m (adjacency (now (ends .entry)) (now (weights .entry)) (now (next .entry)) (now (heads .entry)))) zeroLength))) r (adjacency (now (ends .exit)) (now (weights .exit)) (now (next .exit)) (now (heads .exit))) ⌝ }
 {
     let infinity = repair_tournament::infinity();
     let mut dist = [infinity; MOST_NODES];
@@ -111,7 +110,7 @@ fn retrace_all(
         most,
         number,
     );
-    let Applied::Repaired(sum, count) = laid else {
+    let Applied::Laid(sum, count) = laid else {
         return laid;
     };
     close(
@@ -157,12 +156,12 @@ pub fn retrace_pairs(
     most: usize,
     number: u8,
 ) -> Applied
-    requires { ⌜ (most ≤ mostEdges) × (pairs ≤ mostPairs) × ((j : ℕ) → j < pairs → (getD (now firsts) j 0 < n) × (getD (now seconds) j 0 < n)) ⌝ }
+    requires { ⌜ (most ≤ mostEdges) × (pairs ≤ mostPairs) × PairsAmong n (now firsts) (now seconds) pairs ⌝ }
     requires { ⌜ EdgesHeld n m (adjacency (now ends) (now weights) (now next) (now heads)) ⌝ }
-    ensures { λ r. ⌜ Answers n (closeIf closing most number n (applyMatching most number n (pairsIn (now (firsts .entry)) (now (seconds .entry)) 0 pairs) (under (edgesIn m (adjacency (now (ends .entry)) (now (weights .entry)) (now (next .entry)) (now (heads .entry)))) zeroLength))) r (adjacency (now (ends .exit)) (now (weights .exit)) (now (next .exit)) (now (heads .exit))) ⌝ }
+    ensures { λ r. ⌜ Answers n (closeIf closing most number n (applyMatching most number n (pairsIn (now (firsts .entry)) (now (seconds .entry)) 0 pairs) (soFar (edgesIn m (adjacency (now (ends .entry)) (now (weights .entry)) (now (next .entry)) (now (heads .entry)))) zeroLength))) r (adjacency (now (ends .exit)) (now (weights .exit)) (now (next .exit)) (now (heads .exit))) ⌝ }
 {
     if nothing_left(pairs, closing) {
-        return Applied::Repaired(0.0, m);
+        return Applied::Laid(0.0, m);
     }
     retrace_all(
         ends,

@@ -21,8 +21,8 @@ fn weight_of(weights: &[f64; EDGE_ROOM], k: usize) -> f64
     weights[e]
 }
 
-// One copy for each edge of the path that stands in `path` from the place `first` on, from its start to its
-// end. Each has the weight of the first of the node's edges that leads to the next node, copies laid before
+// One copy for each edge of the path, from its start to its end; the path stands from `first` to the array's end.
+// Each has the weight of the first of the node's edges that leads to the next node, copies laid before
 // among them. There are m edges before; the answer is `sum` with the weight of each copy added.
 pub fn lay_path(
     ends: &mut [u16; ARC_ROOM],

@@ -73,7 +73,7 @@ fn fill_row(
 }
 
 // The least distances between the first `count` nodes of `odd`: the row at place i has those from the node at
-// place i.
+// place i. What stands in the table before the rows is left open.
 pub fn fill_rows(
     ends: &[u16; ARC_ROOM],
     weights: &[f64; EDGE_ROOM],

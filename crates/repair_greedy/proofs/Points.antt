@@ -14,7 +14,7 @@ use Rattle.lists.proofs.Elements.{set-cases}
 use Rattle.graph_spec.specs.Chain.{squared}
 use Rattle.graph_arrays.specs.Arrays.{pointIn, nodesIn, NodesHeld}
 use Rattle.graph_arrays.specs.NodeList.{NodeList}
-use Rattle.graph_spec.specs.Graph.{noPoint}
+use Rattle.drawing_spec.specs.Drawing.{noPoint}
 use Rattle.lists.proofs.Tabulate.{tabulate-at}
 use Rattle.repair_greedy.specs.Rows.{at}
 

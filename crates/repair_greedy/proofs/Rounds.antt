@@ -8,7 +8,7 @@ use lib.ListN.{length, getD, take, set, length-map, length-set}
 use lib.Seq.{length-take-le, take-take, take-set-lt, getD-take}
 use lib.Dec.{ltb}
 use borrow.Author.Tests.{lt-ltb, le-ltb}
-use Rattle.drawing_spec.specs.Drawing.{Point}
+use Rattle.drawing_spec.specs.Drawing.{Point, noPoint}
 use Rattle.limits.specs.Limits.{mostPairs, mostNodes}
 use Rattle.repair_spec.specs.Pairing.{Pair, pair, Closest, nothing, between, closest, swapRemove, greedyPairs}
 use Rattle.repair_spec.proofs.Pairs.{Places, closest-places}
@@ -16,7 +16,6 @@ use Rattle.repair_spec.specs.PairsIn.{pairsIn, PairRoom}
 use Rattle.repair_spec.proofs.PairsIn.{pairs-more, room-more}
 use Rattle.graph_arrays.specs.Arrays.{pointIn, nodesIn}
 use Rattle.graph_arrays.specs.NodeList.{NodeList}
-use Rattle.graph_spec.specs.Graph.{noPoint}
 use Rattle.repair_greedy.proofs.Points.{nodes-removed, points-of}
 use Rattle.repair_greedy.specs.Bounds.{Bounds}
 use Rattle.repair_greedy.proofs.Bounds.{bounds-removed}

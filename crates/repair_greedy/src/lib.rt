@@ -138,7 +138,8 @@ fn least_row(lows: &[u64; MOST_NODES], left: usize) -> usize
     least.at
 }
 
-// Looks at row i, of `left` places: its bound is then its least distance, which is the answer.
+// Looks at row i, of `left` places: its bound is then its least distance, which is the answer. That it is at most 2^49
+// leaves room for the one more that `find_closest` adds.
 fn look_at(
     xs: &[u32; MOST_NODES],
     ys: &[u32; MOST_NODES],
@@ -248,7 +249,8 @@ fn pair_nearest(
 }
 
 // Greedy's pairs of the first `count` nodes of `odd`, of n nodes; two nodes are left over. The answer is the
-// number of pairs, which stand in `firsts` and `seconds`; the list of odd nodes is used up.
+// number of pairs, which stand in `firsts` and `seconds`; what stands behind them there is left open, and the list of odd
+// nodes is used up.
 pub fn greedy_pairs(
     xs: &[u32; MOST_NODES],
     ys: &[u32; MOST_NODES],

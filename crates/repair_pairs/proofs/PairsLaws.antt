@@ -8,7 +8,7 @@ use lib.ListN.{length}
 use borrow.Author.Tests.{eq-eqb, ne-eqb}
 use Rattle.drawing_spec.specs.Drawing.{Settings}
 use Rattle.limits.specs.Limits.{mostOdd, refusedOdd, refusedTables}
-use Rattle.drawing_spec.specs.Refusal.{Condition, condition, refused, accepted, verdict}
+use Rattle.drawing_spec.specs.Refusal.{Condition, condition, refused, accepted, verdict, refusalOf}
 use Rattle.graph_spec.specs.Graph.{Graph}
 use Rattle.graph_spec.specs.Odd.{oddNodes}
 use Rattle.graph_adjacency.specs.Lists.{Adjacency}
@@ -17,7 +17,7 @@ use Rattle.graph_arrays.proofs.NodeList.{nodes-count}
 use Rattle.repair_spec.specs.Pairing.{Pair, optimalPairs, greedyPairs}
 use Rattle.repair_spec.specs.PairsIn.{pairsIn}
 use Rattle.repair_spec.specs.Repair.{rows, distanceIn, pairsOf, tooManyOdd, tableShort}
-use Rattle.repair_pairs.specs.Refusal.{tableConditions, numberOf, refusal}
+use Rattle.repair_pairs.specs.Refusal.{tableConditions, refusal}
 use Rattle.repair_pairs.specs.Pairs as found
 use Rattle.repair_pairs.specs.Pairs.{pairsFor}
 use Rattle.repair_pairs.proofs.Few.{pairs-few}
@@ -41,14 +41,14 @@ afterChecks m a s floats bytes g k =
 abbrev checks : Bool → Bool → List Condition
 checks many short = condition refusedOdd many ∷ condition refusedTables short ∷ []
 
-first : (many short : Bool) (k : ℕ) (p : found.Found) → k ≡ numberOf (verdict (checks many short)) → (k ≡ 0 → ⊥)
+first : (many short : Bool) (k : ℕ) (p : found.Found) → k ≡ refusalOf (verdict (checks many short)) → (k ≡ 0 → ⊥)
     → elim (verdict (checks many short)) [ refused j ↦ found.refusal j | accepted ↦ p ] ≡ found.refusal k
 unfolding verdict
 first true short k p e h = ap found.refusal (sym e)
 first false true k p e h = ap found.refusal (sym e)
 first false false k p e h = absurd (h e)
 
-neither : (many short : Bool) (p : found.Found) → numberOf (verdict (checks many short)) ≡ 0 → elim (verdict (checks many short)) [ refused j ↦ found.refusal j | accepted ↦ p ] ≡ p
+neither : (many short : Bool) (p : found.Found) → refusalOf (verdict (checks many short)) ≡ 0 → elim (verdict (checks many short)) [ refused j ↦ found.refusal j | accepted ↦ p ] ≡ p
 unfolding verdict
 neither true short p e = absurd (omega arith)
 neither false true p e = absurd (omega arith)

@@ -20,7 +20,7 @@ use Rattle.repair_spec.specs.Pairing.{Pair, pair}
 use Rattle.repair_spec.proofs.Pairs.{ends}
 use Rattle.repair_spec.specs.Repair.{pairsOf}
 use Rattle.repair_spec.proofs.Repaired.{pairs-of}
-use Rattle.repair_spec.specs.PairsIn.{pairsIn}
+use Rattle.repair_spec.specs.PairsIn.{pairsIn, PairsAmong}
 use Rattle.repair_spec.proofs.PairsIn.{pairs-count}
 use Rattle.repair_pairs.proofs.Few.{pairs-few}
 
@@ -92,7 +92,7 @@ pairs-at fs ss i (suc k) (suc j) h = let e : suc i + j ≡ i + suc j = suc-add i
 -- there is room for them, and they are pairs of nodes
 pub record Usable (n k : ℕ) (fs ss : List ℕ) : Type 0 where
   pub few : k ≤ mostPairs
-  pub below : (j : ℕ) → j < k → (getD fs j 0 < n) × (getD ss j 0 < n)
+  pub nodes : PairsAmong n fs ss k
 
 pub pairs-usable : (n : ℕ) → n ≤ mostNodes → (es : List Edge) → Inside n es → (g : Graph) (s : Settings) (k : ℕ) (fs ss : List ℕ) → pairsIn fs ss 0 k ≡ pairsOf g s (oddNodes n es) → Usable n k fs ss
 pairs-usable n room es inside g s k fs ss e =
@@ -102,9 +102,11 @@ pairs-usable n room es inside g s k fs ss e =
     λ j h. let z : 0 + j ≡ j = omega arith in ap (λ (qs : List Pair). getD qs j (pair 0 0)) (sym e) ∙ pairs-at fs ss 0 k j h ∙ ap (λ (q : ℕ). pair (getD fs q 0) (getD ss q 0)) z in
     record {
       few = omega (arith, pairs-few-of n es inside g s);
-      below = λ j h.
-          let have = ends-have ps j (omega arith) in (
-            omega (arith, ap (λ (p : Pair). p .from) (at j h), odd-node n es inside g s (getD ps j (pair 0 0) .from) (have .0)),
-            omega (arith, ap (λ (p : Pair). p .to) (at j h), odd-node n es inside g s (getD ps j (pair 0 0) .to) (have .1)),
-          );
+      nodes = record {
+        among = λ j h.
+            let have = ends-have ps j (omega arith) in (
+              omega (arith, ap (λ (p : Pair). p .from) (at j h), odd-node n es inside g s (getD ps j (pair 0 0) .from) (have .0)),
+              omega (arith, ap (λ (p : Pair). p .to) (at j h), odd-node n es inside g s (getD ps j (pair 0 0) .to) (have .1)),
+            );
+      };
     }

@@ -17,8 +17,8 @@ use Rattle.repair_spec.specs.Pairing.{pair}
 use Rattle.repair_spec.specs.Repair.{Repairing, applyMatching}
 use Rattle.repair_early_exit.proofs.Laid.{retrace-searchable}
 use Rattle.repair_copies.specs.Laying.{laidOf, copiesFrom}
-use Rattle.repair_retrace.specs.Outcome.{done, under}
-use Rattle.repair_retrace.specs.declared.Applied.the-variants.{Repaired, Refused}
+use Rattle.repair_retrace.specs.Outcome.{done, soFar}
+use Rattle.repair_retrace.specs.declared.Applied.the-variants as applied
 use Rattle.repair_retrace.specs.Answer.{Answers}
 use Rattle.repair_retrace.proofs.Outcome.{outcome-missing, outcome-over, outcome-laid}
 use Rattle.repair_retrace.proofs.Path.{copies-are}
@@ -28,16 +28,16 @@ module _ (most number n m s t : ℕ) (sum : Float) (a a' : Adjacency) where
   es = edgesIn m a
 
   abbrev repair : Repairing
-  repair = applyMatching most number n (pair s t ∷ []) (under es sum)
+  repair = applyMatching most number n (pair s t ∷ []) (soFar es sum)
 
-  pub answers-missing : error ≡ shortestPath n es s t → Answers n repair (Refused refusedPath) a'
+  pub answers-missing : error ≡ shortestPath n es s t → Answers n repair (applied.Refused refusedPath) a'
   answers-missing h = record { is = outcome-missing most number n (pair s t) es sum h; held = tt }
 
   module _ (path : List ℕ) (long : length path ≡ mostNodes) (first : ℕ) (is : found (drop first path) ≡ shortestPath n es s t) where
     counted : length es + (length (drop first path) - 1) ≡ m + copiesFrom first
     counted = omega (arith, copies-are path first long, edges-count m a)
 
-    pub answers-over : most < m + copiesFrom first → Answers n repair (Refused number) a'
+    pub answers-over : most < m + copiesFrom first → Answers n repair (applied.Refused number) a'
     answers-over h = record { is = outcome-over most number n (pair s t) es sum (drop first path) is (subst (λ (k : ℕ). most < k) (sym counted) h); held = tt }
 
     -- The copies are laid. A graph that can be searched is left so: what repair keeps.
@@ -50,7 +50,7 @@ module _ (most number n m s t : ℕ) (sum : Float) (a a' : Adjacency) where
         searchable = subst (Searchable n) (sym (ap (λ (l : Laid). l .edges) laid)) (retrace-searchable n (laidOf es sum) s t (drop first path) (sym is) (H .searchable));
       }
 
-      pub answers-laid : Answers n repair (Repaired total (m + copiesFrom first)) a'
+      pub answers-laid : Answers n repair (applied.Laid total (m + copiesFrom first)) a'
       answers-laid = record {
         is = ap done laid ∙ outcome-laid most number n (pair s t) es sum (drop first path) is (subst (λ (k : ℕ). k ≤ most) (sym counted) fits);
         held = laid-held;

@@ -11,8 +11,8 @@ use Rattle.graph_arrays.specs.Arrays.{edgesIn, EdgesHeld}
 use Rattle.repair_spec.specs.Pairing.{Pair, pair}
 use Rattle.repair_spec.specs.PairsIn.{pairsIn}
 use Rattle.repair_spec.specs.Repair.{Repairing, applyMatching}
-use Rattle.repair_retrace.specs.Outcome.{Outcome, outcome, under}
-use Rattle.repair_retrace.specs.declared.Applied.the-variants.{Repaired, Refused}
+use Rattle.repair_retrace.specs.Outcome.{RepairOutcome, outcome, soFar}
+use Rattle.repair_retrace.specs.declared.Applied.the-variants.{Laid, Refused}
 use Rattle.repair_retrace.specs.Answer.{Answers}
 use Rattle.repair_retrace.proofs.Outcome.{outcome-none, others, outcome-first}
 
@@ -34,15 +34,15 @@ module _ (most number n : ℕ) (firsts seconds : List ℕ) (pairs : ℕ) (all : 
   pub record Applying (a : Adjacency) (i m : ℕ) (total : Float) : Type 0 where
     pub most-pairs : i ≤ pairs
     pub held : EdgesHeld n m a
-    pub same : outcome (applyMatching most number n (pairsIn firsts seconds i (pairs - i)) (under (edgesIn m a) total)) ≡ outcome all
+    pub same : outcome (applyMatching most number n (pairsIn firsts seconds i (pairs - i)) (soFar (edgesIn m a) total)) ≡ outcome all
 
   module _ (a : Adjacency) (i m : ℕ) (total : Float) (Y : Applying a i m total) where
-    pub applying-end : (i < pairs → ⊥) → Answers n all (Repaired total m) a
+    pub applying-end : (i < pairs → ⊥) → Answers n all (Laid total m) a
     applying-end h =
         let none : pairs - i ≡ 0 = omega arith in
         record {
-          is = sym (outcome-none most number n (under (edgesIn m a) total))
-              ∙ ap (λ (ps : List Pair). outcome (applyMatching most number n ps (under (edgesIn m a) total))) (sym (pairs-end firsts seconds i (pairs - i) none)) ∙ Y .same;
+          is = sym (outcome-none most number n (soFar (edgesIn m a) total))
+              ∙ ap (λ (ps : List Pair). outcome (applyMatching most number n ps (soFar (edgesIn m a) total))) (sym (pairs-end firsts seconds i (pairs - i) none)) ∙ Y .same;
           held = Y .held;
         }
 
@@ -56,20 +56,20 @@ module _ (most number n : ℕ) (firsts seconds : List ℕ) (pairs : ℕ) (all : 
           ∙ ap (λ (x : ℕ). pair x (getD seconds i 0) ∷ pairsIn firsts seconds (i + 1) (pairs - (i + 1))) (sym isFrom)
           ∙ ap (λ (x : ℕ). pair from x ∷ pairsIn firsts seconds (i + 1) (pairs - (i + 1))) (sym isTo)
 
-      after : (o : Outcome) → o ≡ outcome (applyMatching most number n (pair from to ∷ []) (under (edgesIn m a) total)) → others most number n (pairsIn firsts seconds (i + 1) (pairs - (i + 1))) o ≡ outcome all
+      after : (o : RepairOutcome) → o ≡ outcome (applyMatching most number n (pair from to ∷ []) (soFar (edgesIn m a) total)) → others most number n (pairsIn firsts seconds (i + 1) (pairs - (i + 1))) o ≡ outcome all
       after o e =
           ap (others most number n (pairsIn firsts seconds (i + 1) (pairs - (i + 1)))) e
-          ∙ sym (outcome-first most number n (pair from to) (pairsIn firsts seconds (i + 1) (pairs - (i + 1))) (under (edgesIn m a) total))
-          ∙ ap (λ (ps : List Pair). outcome (applyMatching most number n ps (under (edgesIn m a) total))) (sym left) ∙ Y .same
+          ∙ sym (outcome-first most number n (pair from to) (pairsIn firsts seconds (i + 1) (pairs - (i + 1))) (soFar (edgesIn m a) total))
+          ∙ ap (λ (ps : List Pair). outcome (applyMatching most number n ps (soFar (edgesIn m a) total))) (sym left) ∙ Y .same
 
-      pub applying-refused : (k : ℕ) → Answers n (applyMatching most number n (pair from to ∷ []) (under (edgesIn m a) total)) (Refused k) a' → Answers n all (Refused k) a'
+      pub applying-refused : (k : ℕ) → Answers n (applyMatching most number n (pair from to ∷ []) (soFar (edgesIn m a) total)) (Refused k) a' → Answers n all (Refused k) a'
       applying-refused k P = record { is = after _ (P .is); held = tt }
 
-      pub applying-step : (x : Float) (m' : ℕ) → Answers n (applyMatching most number n (pair from to ∷ []) (under (edgesIn m a) total)) (Repaired x m') a' → Applying a' (i + 1) m' x
+      pub applying-step : (x : Float) (m' : ℕ) → Answers n (applyMatching most number n (pair from to ∷ []) (soFar (edgesIn m a) total)) (Laid x m') a' → Applying a' (i + 1) m' x
       applying-step x m' P = record { most-pairs = omega arith; held = P .held; same = after _ (P .is) }
 
 pub applying-begin : (most number n : ℕ) (firsts seconds : List ℕ) (pairs m : ℕ) (sum : Float) (a : Adjacency) → EdgesHeld n m a
-    → Applying most number n firsts seconds pairs (applyMatching most number n (pairsIn firsts seconds 0 pairs) (under (edgesIn m a) sum)) a 0 m sum
+    → Applying most number n firsts seconds pairs (applyMatching most number n (pairsIn firsts seconds 0 pairs) (soFar (edgesIn m a) sum)) a 0 m sum
 applying-begin most number n firsts seconds pairs m sum a H =
     let none : pairs - 0 ≡ pairs = omega arith in
-    record { most-pairs = omega arith; held = H; same = ap (λ (k : ℕ). outcome (applyMatching most number n (pairsIn firsts seconds 0 k) (under (edgesIn m a) sum))) none }
+    record { most-pairs = omega arith; held = H; same = ap (λ (k : ℕ). outcome (applyMatching most number n (pairsIn firsts seconds 0 k) (soFar (edgesIn m a) sum))) none }

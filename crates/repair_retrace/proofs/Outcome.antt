@@ -15,7 +15,7 @@ use Rattle.repair_spec.specs.Pairing.{Pair}
 use Rattle.repair_spec.specs.Repair.{Repair, Repairing, stopped, retraced, applyMatching}
 use Rattle.repair_early_exit.proofs.Laid.{counted, apply-counted}
 use Rattle.repair_copies.specs.Laying.{laidOf}
-use Rattle.repair_retrace.specs.Outcome.{Outcome, refused, done, outcome, under}
+use Rattle.repair_retrace.specs.Outcome.{RepairOutcome, refused, done, outcome, soFar}
 
 module _ (most number n : ℕ) where
   pub outcome-none : (r : Repair) → outcome (applyMatching most number n [] r) ≡ done (laidOf (r .edges) (r .sum))
@@ -23,26 +23,26 @@ module _ (most number n : ℕ) where
   outcome-none r = refl
 
   -- the retraces before do not count
-  pub forget : (ps : List Pair) (r : Repair) → outcome (applyMatching most number n ps r) ≡ outcome (applyMatching most number n ps (under (r .edges) (r .sum)))
-  forget [] r = outcome-none r ∙ sym (outcome-none (under (r .edges) (r .sum)))
+  pub forget : (ps : List Pair) (r : Repair) → outcome (applyMatching most number n ps r) ≡ outcome (applyMatching most number n ps (soFar (r .edges) (r .sum)))
+  forget [] r = outcome-none r ∙ sym (outcome-none (soFar (r .edges) (r .sum)))
   forget (p ∷ ps) r =
       ap outcome (apply-counted most number n p ps r) ∙ go (shortestPath n (r .edges) (p .from) (p .to)) (λ q. forget ps q)
-      ∙ sym (ap outcome (apply-counted most number n p ps (under (r .edges) (r .sum))))
+      ∙ sym (ap outcome (apply-counted most number n p ps (soFar (r .edges) (r .sum))))
     where
-      go : (x : Path) → ((q : Repair) → outcome (applyMatching most number n ps q) ≡ outcome (applyMatching most number n ps (under (q .edges) (q .sum))))
-          → outcome (counted most number n ps r x) ≡ outcome (counted most number n ps (under (r .edges) (r .sum)) x)
+      go : (x : Path) → ((q : Repair) → outcome (applyMatching most number n ps q) ≡ outcome (applyMatching most number n ps (soFar (q .edges) (q .sum))))
+          → outcome (counted most number n ps r x) ≡ outcome (counted most number n ps (soFar (r .edges) (r .sum)) x)
       go error rec = refl
       go (found path) rec = fits (leb (length (r .edges) + (length path - 1)) most)
         where
-          fits : (b : Bool) → _≡_ {A = Outcome} (outcome (elim b as (λ b. Repairing) [ false ↦ stopped number | true ↦ applyMatching most number n ps (retraced path r) ]))
-              (outcome (elim b as (λ b. Repairing) [ false ↦ stopped number | true ↦ applyMatching most number n ps (retraced path (under (r .edges) (r .sum))) ]))
+          fits : (b : Bool) → _≡_ {A = RepairOutcome} (outcome (elim b as (λ b. Repairing) [ false ↦ stopped number | true ↦ applyMatching most number n ps (retraced path r) ]))
+              (outcome (elim b as (λ b. Repairing) [ false ↦ stopped number | true ↦ applyMatching most number n ps (retraced path (soFar (r .edges) (r .sum))) ]))
           fits false = refl
-          fits true = rec (retraced path r) ∙ sym (rec (retraced path (under (r .edges) (r .sum))))
+          fits true = rec (retraced path r) ∙ sym (rec (retraced path (soFar (r .edges) (r .sum))))
 
   -- the other pairs, after the first has given o
-  abbrev pub others : List Pair → Outcome → Outcome
+  abbrev pub others : List Pair → RepairOutcome → RepairOutcome
   others ps (refused k) = refused k
-  others ps (done l) = outcome (applyMatching most number n ps (under (l .edges) (l .sum)))
+  others ps (done l) = outcome (applyMatching most number n ps (soFar (l .edges) (l .sum)))
 
   pub outcome-first : (p : Pair) (ps : List Pair) (r : Repair) → outcome (applyMatching most number n (p ∷ ps) r) ≡ others ps (outcome (applyMatching most number n (p ∷ []) r))
   outcome-first p ps r =
@@ -52,7 +52,7 @@ module _ (most number n : ℕ) where
       go error = refl
       go (found path) = fits (leb (length (r .edges) + (length path - 1)) most)
         where
-          fits : (b : Bool) → _≡_ {A = Outcome} (outcome (elim b as (λ b. Repairing) [ false ↦ stopped number | true ↦ applyMatching most number n ps (retraced path r) ]))
+          fits : (b : Bool) → _≡_ {A = RepairOutcome} (outcome (elim b as (λ b. Repairing) [ false ↦ stopped number | true ↦ applyMatching most number n ps (retraced path r) ]))
               (others ps (outcome (elim b as (λ b. Repairing) [ false ↦ stopped number | true ↦ applyMatching most number n [] (retraced path r) ])))
           fits false = refl
           fits true = forget ps (retraced path r) ∙ sym (ap (others ps) (outcome-none (retraced path r)))
@@ -60,20 +60,20 @@ module _ (most number n : ℕ) where
   -- ---- how the retrace of one pair ends, by its path
 
   module _ (p : Pair) (es : List Edge) (sum : Float) where
-    abbrev single : Outcome
-    single = outcome (applyMatching most number n (p ∷ []) (under es sum))
+    abbrev single : RepairOutcome
+    single = outcome (applyMatching most number n (p ∷ []) (soFar es sum))
 
     pub outcome-missing : error ≡ shortestPath n es (p .from) (p .to) → refused refusedPath ≡ single
-    outcome-missing h = sym (ap outcome (apply-counted most number n p [] (under es sum) ∙ ap (counted most number n [] (under es sum)) (sym h)))
+    outcome-missing h = sym (ap outcome (apply-counted most number n p [] (soFar es sum) ∙ ap (counted most number n [] (soFar es sum)) (sym h)))
 
     module _ (path : List ℕ) (is : found path ≡ shortestPath n es (p .from) (p .to)) where
-      by-count : (b : Bool) → leb (length es + (length path - 1)) most ≡ b → outcome (elim b as (λ b. Repairing) [ false ↦ stopped number | true ↦ applyMatching most number n [] (retraced path (under es sum)) ]) ≡ single
+      by-count : (b : Bool) → leb (length es + (length path - 1)) most ≡ b → outcome (elim b as (λ b. Repairing) [ false ↦ stopped number | true ↦ applyMatching most number n [] (retraced path (soFar es sum)) ]) ≡ single
       by-count b h =
-          sym (ap outcome (apply-counted most number n p [] (under es sum) ∙ ap (counted most number n [] (under es sum)) (sym is)
-          ∙ ap (λ (x : Bool). elim x as (λ b. Repairing) [ false ↦ stopped number | true ↦ applyMatching most number n [] (retraced path (under es sum)) ]) h))
+          sym (ap outcome (apply-counted most number n p [] (soFar es sum) ∙ ap (counted most number n [] (soFar es sum)) (sym is)
+          ∙ ap (λ (x : Bool). elim x as (λ b. Repairing) [ false ↦ stopped number | true ↦ applyMatching most number n [] (retraced path (soFar es sum)) ]) h))
 
       pub outcome-over : most < length es + (length path - 1) → refused number ≡ single
       outcome-over h = by-count false (lt-leb (length es + (length path - 1)) most h)
 
       pub outcome-laid : length es + (length path - 1) ≤ most → done (layPath path (laidOf es sum)) ≡ single
-      outcome-laid h = sym (outcome-none (retraced path (under es sum))) ∙ by-count true (le-leb (length es + (length path - 1)) most h)
+      outcome-laid h = sym (outcome-none (retraced path (soFar es sum))) ∙ by-count true (le-leb (length es + (length path - 1)) most h)

@@ -8,14 +8,14 @@ use Rattle.repair_spec.specs.Repair.{Repair, Repairing, stopped, repaired}
 use Rattle.repair_copies.specs.Laying.{laidOf}
 
 -- or the number of a refusal
-pub data Outcome : Type 0 where
-  refused : ℕ → Outcome
-  done : Laid → Outcome
+pub data RepairOutcome : Type 0 where
+  refused : ℕ → RepairOutcome
+  done : Laid → RepairOutcome
 
-abbrev pub outcome : Repairing → Outcome
+abbrev pub outcome : Repairing → RepairOutcome
 outcome (stopped k) = refused k
 outcome (repaired r) = done (laidOf (r .edges) (r .sum))
 
--- what a repair goes on from: edges, and the sum so far
-abbrev pub under : List Edge → Float → Repair
-under es x = record { edges = es; retraces = []; sum = x }
+-- a repair so far: these edges and this sum, no retrace listed
+abbrev pub soFar : List Edge → Float → Repair
+soFar es x = record { edges = es; retraces = []; sum = x }

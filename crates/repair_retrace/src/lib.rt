@@ -2,18 +2,18 @@
 // a graph in flat arrays (crates/graph_adjacency).
 ghost use mathlib.Core.Path.{_≡_};
 ghost use mathlib.Core.List.{[], _∷_};
-ghost use Prim.Native.Nat.{ℕ, _<_, _≤_};
-ghost use lib.ListN.{length, getD};
+ghost use Prim.Native.Nat.{_<_, _≤_};
+ghost use lib.ListN.{length};
 ghost use Rattle.limits.specs.Limits.{mostNodes, mostEdges, mostPairs};
 ghost use Rattle.graph_adjacency.specs.Lists.{adjacency};
 ghost use Rattle.graph_arrays.specs.Arrays.{edgesIn, EdgesHeld};
 ghost use Rattle.repair_spec.specs.Retrace.{shortestPath};
 ghost use Rattle.repair_spec.specs.Pairing.{pair};
-ghost use Rattle.repair_spec.specs.PairsIn.{pairsIn};
+ghost use Rattle.repair_spec.specs.PairsIn.{pairsIn, PairsAmong};
 ghost use Rattle.repair_spec.specs.Repair.{applyMatching};
 ghost use Rattle.repair_search.specs.Touched.{Unreached};
 ghost use Rattle.repair_way_back.specs.Answer.{wayIn};
-ghost use Rattle.repair_retrace.specs.Outcome.{under};
+ghost use Rattle.repair_retrace.specs.Outcome.{soFar};
 ghost use Rattle.repair_retrace.specs.Answer.{Answers};
 use limits::ARC_ROOM;
 use limits::EDGE_ROOM;
@@ -24,13 +24,13 @@ use repair_way_back::Way;
 
 pub enum Applied {
     // the sum with the copies' weights, and the number of edges with the copies
-    Repaired(f64, usize),
+    Laid(f64, usize),
     // the number of a refusal
     Refused(u8),
 }
 
-// The shortest path from s to t, written into `path` as the way back writes it. The search is made in lent arrays, which
-// are then as they were.
+// The shortest path from s to t, written into `path` as the way back writes it: what stands in front of it, and all of
+// `path` on `Missing`, is left open. The search is made in lent arrays, which are then as they were.
 pub fn shortest_path(
     ends: &[u16; ARC_ROOM],
     weights: &[f64; EDGE_ROOM],
@@ -89,7 +89,7 @@ pub fn apply_pair(
 ) -> Applied
     requires { ⌜ (from < n) × (to < n) × (most ≤ mostEdges) × Unreached n (now dist) (now tree) (now touched) ⌝ }
     requires { ⌜ EdgesHeld n m (adjacency (now ends) (now weights) (now next) (now heads)) ⌝ }
-    ensures answer { λ r. ⌜ Answers n (applyMatching most number n (pair from to ∷ []) (under (edgesIn m (adjacency (now (ends .entry)) (now (weights .entry)) (now (next .entry)) (now (heads .entry)))) sum)) r (adjacency (now (ends .exit)) (now (weights .exit)) (now (next .exit)) (now (heads .exit))) ⌝ }
+    ensures answer { λ r. ⌜ Answers n (applyMatching most number n (pair from to ∷ []) (soFar (edgesIn m (adjacency (now (ends .entry)) (now (weights .entry)) (now (next .entry)) (now (heads .entry)))) sum)) r (adjacency (now (ends .exit)) (now (weights .exit)) (now (next .exit)) (now (heads .exit))) ⌝ }
     ensures kept { λ _. ⌜ Unreached n (now (dist .exit)) (now (tree .exit)) (now (touched .exit)) ⌝ }
 {
     let mut path = [0; MOST_NODES];
@@ -115,7 +115,7 @@ pub fn apply_pair(
         return Applied::Refused(number);
     }
     let total = repair_copies::lay_path(ends, weights, next, heads, n, m, &path, first, sum);
-    Applied::Repaired(total, count)
+    Applied::Laid(total, count)
 }
 
 // The retraces of the pairs, one after the other, each on the graph as it then is. What the arrays hold after a refusal is
@@ -137,9 +137,9 @@ pub fn apply_matching(
     most: usize,
     number: u8,
 ) -> Applied
-    requires { ⌜ (most ≤ mostEdges) × (pairs ≤ mostPairs) × Unreached n (now dist) (now tree) (now touched) × ((j : ℕ) → j < pairs → (getD (now firsts) j 0 < n) × (getD (now seconds) j 0 < n)) ⌝ }
+    requires { ⌜ (most ≤ mostEdges) × (pairs ≤ mostPairs) × Unreached n (now dist) (now tree) (now touched) × PairsAmong n (now firsts) (now seconds) pairs ⌝ }
     requires { ⌜ EdgesHeld n m (adjacency (now ends) (now weights) (now next) (now heads)) ⌝ }
-    ensures answer { λ r. ⌜ Answers n (applyMatching most number n (pairsIn (now (firsts .entry)) (now (seconds .entry)) 0 pairs) (under (edgesIn m (adjacency (now (ends .entry)) (now (weights .entry)) (now (next .entry)) (now (heads .entry)))) sum)) r (adjacency (now (ends .exit)) (now (weights .exit)) (now (next .exit)) (now (heads .exit))) ⌝ }
+    ensures answer { λ r. ⌜ Answers n (applyMatching most number n (pairsIn (now (firsts .entry)) (now (seconds .entry)) 0 pairs) (soFar (edgesIn m (adjacency (now (ends .entry)) (now (weights .entry)) (now (next .entry)) (now (heads .entry)))) sum)) r (adjacency (now (ends .exit)) (now (weights .exit)) (now (next .exit)) (now (heads .exit))) ⌝ }
     ensures kept { λ _. ⌜ Unreached n (now (dist .exit)) (now (tree .exit)) (now (touched .exit)) ⌝ }
 {
     let mut total = sum;
@@ -164,12 +164,12 @@ pub fn apply_matching(
             most,
             number,
         );
-        let Applied::Repaired(x, k) = step else {
+        let Applied::Laid(x, k) = step else {
             return step;
         };
         total = x;
         count = k;
         i += 1;
     }
-    Applied::Repaired(total, count)
+    Applied::Laid(total, count)
 }

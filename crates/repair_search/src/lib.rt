@@ -125,6 +125,10 @@ fn last_listed(
 // The least distances from s to each of n nodes, up to that of the goal: one that is lower than the goal's or
 // equal to it is the least, and no node with a higher one is nearer than the goal. With a goal that is no
 // node, as MOST_NODES, all are least. The answer is how many nodes were reached, which are listed in `touched`.
+// `Unreached`: every distance is infinity, in the tournament too, so that no node is reached yet.
+// `Found`, by `UpTo`: a distance within the goal's is the least; to a node beyond it no way costs less than the goal's.
+// `Touched`, by `Listed`: the first r of `touched` are nodes, every node with a distance among them, and none of the
+// others has a value in the tournament.
 pub fn search_from(
     ends: &[u16; ARC_ROOM],
     weights: &[f64; EDGE_ROOM],
@@ -140,8 +144,8 @@ pub fn search_from(
 ) -> usize
     requires { ⌜ (s < n) × Unreached n (now dist) (now tree) (now touched) ⌝ }
     requires { ⌜ EdgesHeld n m (adjacency (now ends) (now weights) (now next) (now heads)) ⌝ }
-    ensures { λ _. ⌜ Found (edgesIn m (adjacency (now (ends .entry)) (now (weights .entry)) (now (next .entry)) (now (heads .entry)))) s goal (now (dist .exit)) ⌝ }
-    ensures { λ r. ⌜ Touched n (now (dist .exit)) (now (tree .exit)) (now (touched .exit)) r ⌝ }
+    ensures distances { λ _. ⌜ Found (edgesIn m (adjacency (now (ends .entry)) (now (weights .entry)) (now (next .entry)) (now (heads .entry)))) s goal (now (dist .exit)) ⌝ }
+    ensures reached { λ r. ⌜ Touched n (now (dist .exit)) (now (tree .exit)) (now (touched .exit)) r ⌝ }
 {
     let infinity = repair_tournament::infinity();
     let mut count = touch(dist, touched, n, s, 0);

@@ -10,11 +10,10 @@ use lib.ListN.{length, getD, take, set, length-take, length-set, length-map}
 use lib.Seq.{getD-set-other, getD-take}
 use lib.Dec.{ltb}
 use borrow.Author.Tests.{ltb-true, ltb-false}
-use Rattle.drawing_spec.specs.Drawing.{Point}
+use Rattle.drawing_spec.specs.Drawing.{Point, noPoint}
 use Rattle.lists.proofs.Members.{either}
 use Rattle.lists.proofs.Elements.{set-cases}
 use Rattle.graph_spec.specs.Chain.{squared}
-use Rattle.graph_spec.specs.Graph.{noPoint}
 use Rattle.graph_spec.specs.Odd.{hit}
 use Rattle.graph_spec.proofs.Occurs.{count}
 use Rattle.repair_spec.specs.Pairing.{Pair, pair, Closest, nothing, between, closer, closestTo, closest, swapRemove, greedyPairs}

@@ -1,4 +1,7 @@
 -- Laws of specs/Rounds.
+-- Dijkstra's argument of 1959, for any choice among nodes that are equally near and any order of edges: whoever takes a nearest node that is not done each round, looks along
+-- its edges, and stops where all nodes that are left are infinitely far, has the least cost over all ways to each node, each sum along a way rounded. That rounding keeps the
+-- order of costs and that a sum is never below what was added to is all that the argument needs of it.
 use mathlib.Core.Path.{_≡_, refl, sym, ap, _∙_, subst₂}
 use mathlib.Core.Logic.{_⊎_, inl, inr}
 use mathlib.Core.List.{List, [], _∷_}

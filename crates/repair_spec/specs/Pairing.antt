@@ -5,9 +5,8 @@ use mathlib.Core.Bool.{true, false}
 use lib.ListN.{length, getD, take, set}
 use lib.Dec.{eqb, ltb}
 use lib.Ieee.{Float, binary64, add, lt}
-use Rattle.drawing_spec.specs.Drawing.{Point}
+use Rattle.drawing_spec.specs.Drawing.{Point, noPoint}
 use Rattle.graph_spec.specs.Chain.{squared}
-use Rattle.graph_spec.specs.Graph.{noPoint}
 use Rattle.repair_spec.specs.Distance.{zeroLength}
 
 -- a retrace goes from the first to the second

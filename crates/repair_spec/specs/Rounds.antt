@@ -1,6 +1,4 @@
--- Dijkstra's argument of 1959, for any choice among nodes that are equally near and any order of edges: whoever takes a nearest node that is not done each round, looks along
--- its edges, and stops where all nodes that are left are infinitely far, has the least cost over all ways to each node, each sum along a way rounded. That rounding keeps the
--- order of costs and that a sum is never below what was added to is all that the argument needs of it.
+-- What a search that stops at a limit says of a node.
 use mathlib.Core.List.{List}
 use Prim.Native.Nat.{ℕ, _≤_}
 use lib.Ieee.{Float, binary64}

@@ -127,7 +127,8 @@ fn next_mask(m: usize, n: usize) -> usize
     m + power(half - 1)
 }
 
-// The entries for all masks of n places that are asked for, from the distances between the places.
+// The entries for all masks of n places that are asked for, from the distances between the places: those with an even
+// number of places that are `Needed` (repair_masks/specs/Table). What the entries of other masks are is left open.
 pub fn fill(table: &mut [f64], partners: &mut [u8], n: usize)
     requires { ⌜ (0 < n) × (n ≤ mostOdd) ⌝ }
     requires { ⌜ (2 ^ n + n * n ≤ length (now table)) × (2 ^ n ≤ length (now partners)) ⌝ }

@@ -68,7 +68,8 @@ fn least(tree: &[f64; 2 * MOST_NODES], n: usize) -> usize
     i - n
 }
 
-// Which value is the least, where v is tried first: in a search the node that was reached last often is the nearest.
+// Which value is a least one, where v is tried first: in a search the node that was reached last often is the nearest.
+// Place 1 has the least of all values, so a value that is what stands there is a least one.
 pub fn least_at(tree: &[f64; 2 * MOST_NODES], n: usize, v: usize) -> usize
     requires { ⌜ (v < n) × (n ≤ mostNodes) × Tree n (now tree) ⌝ }
     ensures { λ r. ⌜ (r < n) × (value n (now (tree .entry)) r ≡ at (now (tree .entry)) 1) ⌝ }

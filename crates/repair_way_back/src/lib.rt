@@ -55,8 +55,9 @@ pub enum Way {
 
 // From the node t back to s, by the distances from s: at each node on to the first neighbour, in the order
 // of its edges, that is not yet on the way and from which the edge makes up the distance. The nodes are
-// written into `path` from its end. By least distances, along edges of a grid step or more, no node on the way fits again
-// (repair_early_exit/proofs/Found: each step leads to a nearer node); the contract is for any distances, where one may.
+// written into `path` from its end; what stands in front of the way, and all of `path` on `Missing`, is left open. By
+// least distances, along edges of a grid step or more, no node on the way fits again (repair_early_exit/proofs/Found: each
+// step leads to a nearer node); the contract is for any distances, where one may.
 pub fn way_back(
     ends: &[u16; ARC_ROOM],
     weights: &[f64; EDGE_ROOM],

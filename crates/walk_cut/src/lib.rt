@@ -48,19 +48,21 @@ fn copy(
     count
 }
 
-// The line of the circuit whose entries stand from `first` on. The answer is how many nodes it has. The array is
-// cleared first: behind a reference its length is not known until it is written whole.
+// The line of the circuit whose entries stand from `first` on. The answer is how many nodes it has. `nodes`: whatever
+// graph the circuit's nodes belong to, the line's do. The array is cleared first: behind a reference its length is not
+// known until it is written whole.
 pub fn whole(nodes: &[u16; LINE_ROOM], first: usize, line: &mut [u16; LINE_ROOM]) -> usize
     requires { ⌜ first < lineRoom ⌝ }
     ensures { λ r. ⌜ take r (now (line .exit)) ≡ nodesFrom first (now (nodes .entry)) ⌝ }
-    ensures { λ r. ⌜ ((n : ℕ) → EntriesIn n first (now (nodes .entry)) → NodeList n lineRoom (now (line .exit)) r) ⌝ }
+    ensures nodes { λ r. ⌜ ((n : ℕ) → EntriesIn n first (now (nodes .entry)) → NodeList n lineRoom (now (line .exit)) r) ⌝ }
 {
     *line = [0; LINE_ROOM];
     copy(nodes, first, LINE_ROOM, line, 0)
 }
 
 // The line of the circuit whose entries stand from `first` on, cut at the step by the edge i. Where no entry
-// was entered by i, it is the circuit. The answer is how many nodes it has.
+// was entered by i, it is the circuit. The answer is how many nodes it has. `nodes`: whatever graph the circuit's nodes
+// belong to, the line's do.
 pub fn cut(
     nodes: &[u16; LINE_ROOM],
     bys: &[u16; LINE_ROOM],
@@ -70,7 +72,7 @@ pub fn cut(
 ) -> usize
     requires { ⌜ (first < lineRoom) × (i < edgeRoom) ⌝ }
     ensures { λ r. ⌜ take r (now (line .exit)) ≡ cutLine i first (now (nodes .entry)) (now (bys .entry)) ⌝ }
-    ensures { λ r. ⌜ ((n : ℕ) → EntriesIn n first (now (nodes .entry)) → NodeList n lineRoom (now (line .exit)) r) ⌝ }
+    ensures nodes { λ r. ⌜ ((n : ℕ) → EntriesIn n first (now (nodes .entry)) → NodeList n lineRoom (now (line .exit)) r) ⌝ }
 {
     *line = [0; LINE_ROOM];
     let p = find_entry(bys, first, i + 1);

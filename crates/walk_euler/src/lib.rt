@@ -12,7 +12,8 @@ use limits::EDGE_ROOM;
 use limits::LINE_ROOM;
 use limits::MOST_NODES;
 
-// The circuit from s, where no node is odd. The answer is how many nodes the line has.
+// The circuit from s: the definition's answer for any graph. It is a line through all edges where no node is odd and all
+// are reached. The answer is how many nodes the line has.
 pub fn closed_line(
     ends: &[u16; ARC_ROOM],
     weights: &[f64; EDGE_ROOM],
@@ -35,9 +36,10 @@ pub fn closed_line(
     walk_cut::whole(&nodes, first, line)
 }
 
-// The line from s between the odd nodes u and v: the virtual edge from u to v is added, and its step is cut,
-// which is known by the edge's number, m. The answer is how many nodes the line has. The arrays of the edges
-// have the virtual edge then.
+// The line from s between the nodes u and v: the virtual edge from u to v is added, and its step is cut, which is known
+// by the edge's number, m. It is the definition's answer for any graph, and a line through all edges where u and v alone
+// are odd and all are reached. The answer is how many nodes the line has. What the arrays of the edges hold afterwards,
+// with the virtual edge, is left open.
 pub fn open_line(
     ends: &mut [u16; ARC_ROOM],
     weights: &mut [f64; EDGE_ROOM],

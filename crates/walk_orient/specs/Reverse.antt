@@ -1,4 +1,4 @@
--- The front of a list reversed in place, by swaps from both ends. Assumes nothing.
+-- The front of a list reversed in place, by swaps from both ends.
 use mathlib.Core.Path.{_≡_}
 use mathlib.Core.List.{List, reverse}
 use Prim.Native.Nat.{ℕ, _+_, _-_, _<_}

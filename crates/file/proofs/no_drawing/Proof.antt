@@ -9,11 +9,11 @@ use Rattle.file.proofs.no_drawing.Tie as tie
 no-settings-requires : tie.Need-no-settings-requires
 no-settings-requires c κs = search needs
 
-no-edge-requires : tie.Need-no-edge-requires
-no-edge-requires c κs = search needs
+no-link-requires : tie.Need-no-link-requires
+no-link-requires c κs = search needs
 
 returns : tie.Need-returns
-returns c = empty-made _ _ (c .before .no-settings .ensures) (c .no-edge .ensures)
+returns c = empty-made _ _ (c .before .no-settings .ensures) (c .no-link .ensures)
 
 pub no-drawing-spec : {M : Type 1} → statement M
-no-drawing-spec = tie.close (tie.spec no-settings-requires no-edge-requires returns)
+no-drawing-spec = tie.close (tie.spec no-settings-requires no-link-requires returns)

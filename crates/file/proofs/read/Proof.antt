@@ -20,17 +20,17 @@ returns c = refused-early (c .before .before .before .before .args .file .now) _
 drawing-of-requires : tie.Need-drawing-of-requires
 drawing-of-requires c κs = passed (c .before .before .before .args .file .now) (sym (c .before .first-refusal .ensures) ∙ c .if1 .left)
 
-edges-fit-requires : tie.Need-edges-fit-requires
-edges-fit-requires c κs = drawing-few (c .before .before .before .before .before .before .before .args .file .now) (passed (c .before .before .before .before .before .before .before .args .file .now) (sym (c .before .before .before .before .before .first-refusal .ensures) ∙ c .before .before .before .before .if1 .left)) (c .before .before .before .drawing-of .result) (c .before .before .before .drawing-of .ensures)
+links-fit-requires : tie.Need-links-fit-requires
+links-fit-requires c κs = drawing-few (c .before .before .before .before .before .before .before .args .file .now) (passed (c .before .before .before .before .before .before .before .args .file .now) (sym (c .before .before .before .before .before .first-refusal .ensures) ∙ c .before .before .before .before .if1 .left)) (c .before .before .before .drawing-of .result) (c .before .before .before .drawing-of .ensures)
 
 refused-requires-2 : tie.Need-refused-requires-2
 refused-requires-2 c κs = search needs
 
 returns-2 : tie.Need-returns-2
-returns-2 c = refused-8 (c .before .before .before .before .before .before .before .before .before .before .args .file .now) (passed (c .before .before .before .before .before .before .before .before .before .before .args .file .now) (sym (c .before .before .before .before .before .before .before .before .first-refusal .ensures) ∙ c .before .before .before .before .before .before .before .if1 .left)) _ (links-tell (c .before .before .before .before .before .before .before .before .before .before .args .file .now) (passed (c .before .before .before .before .before .before .before .before .before .before .args .file .now) (sym (c .before .before .before .before .before .before .before .before .first-refusal .ensures) ∙ c .before .before .before .before .before .before .before .if1 .left)) (c .before .before .before .before .before .before .drawing-of .result) (c .before .before .before .before .before .before .drawing-of .ensures) _ false (c .before .before .edges-fit .ensures) (not-true _ (c .before .if2 .taken))) (c .refused2 .ensures)
+returns-2 c = refused-8 (c .before .before .before .before .before .before .before .before .before .before .args .file .now) (passed (c .before .before .before .before .before .before .before .before .before .before .args .file .now) (sym (c .before .before .before .before .before .before .before .before .first-refusal .ensures) ∙ c .before .before .before .before .before .before .before .if1 .left)) _ (links-tell (c .before .before .before .before .before .before .before .before .before .before .args .file .now) (passed (c .before .before .before .before .before .before .before .before .before .before .args .file .now) (sym (c .before .before .before .before .before .before .before .before .first-refusal .ensures) ∙ c .before .before .before .before .before .before .before .if1 .left)) (c .before .before .before .before .before .before .drawing-of .result) (c .before .before .before .before .before .before .drawing-of .ensures) _ false (c .before .before .links-fit .ensures) (not-true _ (c .before .if2 .taken))) (c .refused2 .ensures)
 
 returns-3 : tie.Need-returns-3
-returns-3 c = accepted-as (c .before .before .before .before .before .before .before .before .before .args .file .now) (passed (c .before .before .before .before .before .before .before .before .before .args .file .now) (sym (c .before .before .before .before .before .before .before .first-refusal .ensures) ∙ c .before .before .before .before .before .before .if1 .left)) _ (links-tell (c .before .before .before .before .before .before .before .before .before .args .file .now) (passed (c .before .before .before .before .before .before .before .before .before .args .file .now) (sym (c .before .before .before .before .before .before .before .first-refusal .ensures) ∙ c .before .before .before .before .before .before .if1 .left)) (c .before .before .before .before .before .drawing-of .result) (c .before .before .before .before .before .drawing-of .ensures) _ true (c .before .edges-fit .ensures) (not-false _ (c .if2 .left))) (c .before .before .before .before .before .drawing-of .ensures)
+returns-3 c = accepted-as (c .before .before .before .before .before .before .before .before .before .args .file .now) (passed (c .before .before .before .before .before .before .before .before .before .args .file .now) (sym (c .before .before .before .before .before .before .before .first-refusal .ensures) ∙ c .before .before .before .before .before .before .if1 .left)) _ (links-tell (c .before .before .before .before .before .before .before .before .before .args .file .now) (passed (c .before .before .before .before .before .before .before .before .before .args .file .now) (sym (c .before .before .before .before .before .before .before .first-refusal .ensures) ∙ c .before .before .before .before .before .before .if1 .left)) (c .before .before .before .before .before .drawing-of .result) (c .before .before .before .before .before .drawing-of .ensures) _ true (c .before .links-fit .ensures) (not-false _ (c .if2 .left))) (c .before .before .before .before .before .drawing-of .ensures)
 
 pub read-spec : {M : Type 1} → statement M
 read-spec =
@@ -40,7 +40,7 @@ read-spec =
     refused-requires
     returns
     drawing-of-requires
-    edges-fit-requires
+    links-fit-requires
     refused-requires-2
     returns-2
     returns-3)

@@ -4,7 +4,7 @@ use Rattle.graph_splits.specs.Points.{points}
 use Rattle.graph_strokes.specs.Step.{tracedIn}
 use Rattle.graph_chain.specs.Along.{tracedAlong}
 use Rattle.graph_line.specs.Follow.{Scratch}
-use Rattle.graph_line.specs.Lines.{filing, origin}
+use Rattle.graph_line.specs.Lines.{filing, anywhere}
 use Rattle.graph_lines.specs.All.{linesIn}
 use Rattle.graph_lines.proofs.All.{OnLines, start-low, lines-begin, line-ready, line-drawn, lines-end}
 use borrow.Author.Needs.{needs}
@@ -15,7 +15,7 @@ abbrev Inv-loop : tie.InvT-loop
 Inv-loop xs₀ ys₀ older₀ buckets₀ ends₀ weights₀ next₀ heads₀ keys₀ sx₀ sy₀ pxs pys filed newest lx ly starts lines t₀ i₀ xs ys older buckets ends weights next heads keys sx sy t i =
     Scratch keys sx sy
     × OnLines (filing (points pxs pys) filed newest) (points lx ly) starts lines i (tracedIn xs ys older buckets ends weights next heads t)
-    (tracedAlong origin (linesIn (filing (points pxs pys) filed newest) (points lx ly) starts lines 0) (tracedIn xs₀ ys₀ older₀ buckets₀ ends₀ weights₀ next₀ heads₀ t₀))
+    (tracedAlong anywhere (linesIn (filing (points pxs pys) filed newest) (points lx ly) starts lines 0) (tracedIn xs₀ ys₀ older₀ buckets₀ ends₀ weights₀ next₀ heads₀ t₀))
 
 abbrev μ-loop : tie.MeasureT-loop
 μ-loop xs₀ ys₀ older₀ buckets₀ ends₀ weights₀ next₀ heads₀ keys₀ sx₀ sy₀ pxs pys filed newest lx ly starts lines t₀ i₀ xs ys older buckets ends weights next heads keys sx sy t i = lines - i

@@ -4,7 +4,7 @@ use Rattle.graph_splits.specs.Points.{points}
 use Rattle.graph_strokes.specs.Step.{tracedIn}
 use Rattle.graph_strokes.proofs.StepLaws.{begin-is}
 use Rattle.graph_chain.specs.Along.{tracedAlong}
-use Rattle.graph_line.specs.Lines.{origin}
+use Rattle.graph_line.specs.Lines.{anywhere}
 use Rattle.graph_lines.specs.All.{linksIn}
 use Rattle.graph_lines.proofs.All.{OnLinks, links-begin, first-ready, second-ready, link-drawn, links-end}
 use borrow.Author.Needs.{needs}
@@ -14,7 +14,7 @@ use Rattle.graph_lines.proofs.trace_links.Tie as tie
 abbrev Inv-loop : tie.InvT-loop
 Inv-loop xs₀ ys₀ older₀ buckets₀ ends₀ weights₀ next₀ heads₀ pxs pys links t₀ k₀ xs ys older buckets ends weights next heads t k =
     OnLinks (points pxs pys) links k (tracedIn xs ys older buckets ends weights next heads t)
-    (tracedAlong origin (linksIn (points pxs pys) links 0) (tracedIn xs₀ ys₀ older₀ buckets₀ ends₀ weights₀ next₀ heads₀ t₀))
+    (tracedAlong anywhere (linksIn (points pxs pys) links 0) (tracedIn xs₀ ys₀ older₀ buckets₀ ends₀ weights₀ next₀ heads₀ t₀))
 
 abbrev μ-loop : tie.MeasureT-loop
 μ-loop xs₀ ys₀ older₀ buckets₀ ends₀ weights₀ next₀ heads₀ pxs pys links t₀ k₀ xs ys older buckets ends weights next heads t k = links - k

@@ -56,7 +56,7 @@ search-pairs-requires c κs =
     let f = c .before .before .before .before .before .before .before .before .before .before in
     let b = start f in
     let U = usable (b .args .n) (b .args .m) (b .args .xs .now) (b .args .ys .now) (entry b) (settingsOf (b .args .settings)) (length (b .args .floats .now)) (length (b .args .bytes .now)) (b .args .last) (f .find-pairs .result) (firsts f) (seconds f) (f .find-pairs .ensures) _ _ (c .before .before .before .before .pairs2 .given .1) (b .pre .1) in
-    ((U .few, U .below), b .pre .1)
+    ((U .few, U .nodes), b .pre .1)
 
 same-length-3 : tie.Need-same-length-3
 same-length-3 c = search needs

@@ -61,7 +61,7 @@ add-distance-requires c κs =
     let t = c .before .before .before in
     let l = t .before .before .before .before .before in
     let b = l .before .before in
-    let p = b .pre .0 .1 (l .loop .i) (t .before .before .before .before .loop-test .taken) in
+    let p = b .pre .0 .1 .among (l .loop .i) (t .before .before .before .before .loop-test .taken) in
     ((omega (arith, t .before .before .wide .ensures, p .0), omega (arith, t .wide2 .ensures, p .1), l .loop .inv .0), b .pre .1)
 
 add-i : tie.Need-add-i Inv-loop μ-loop

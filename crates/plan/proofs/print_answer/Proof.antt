@@ -1,6 +1,6 @@
 -- `plan::print_answer` meets its contract. Assumes nothing.
 use mathlib.Core.Path.{subst}
-use Rattle.planner_graph.specs.Answer.{Number}
+use Rattle.planner_graph.specs.Answer.{RetraceNonneg}
 use borrow.Author.Needs.{needs}
 use Rattle.plan.proofs.print_answer.Statement.{statement}
 use Rattle.plan.proofs.print_answer.Tie as tie
@@ -15,7 +15,7 @@ enum-known-answer-2 : tie.Need-enum-known-answer-2
 enum-known-answer-2 c = search needs
 
 bits-of-requires : tie.Need-bits-of-requires
-bits-of-requires c κs = subst Number (c .before .answer2 .given .1) (c .before .before .before .before .pre)
+bits-of-requires c κs = subst RetraceNonneg (c .before .answer2 .given .1) (c .before .before .before .before .pre)
 
 print-counts-requires : tie.Need-print-counts-requires
 print-counts-requires c κs = search needs

@@ -56,7 +56,7 @@ retrace-pairs-requires c κs =
     let case = c .before .before .before .before .before .before .before .before .pairs2 in
     let U = found-usable (b .args .most) (b .args .number) (b .args .n) (b .args .m) (b .args .xs .now) (b .args .ys .now) (entry b) (b .pre .2) (settingsOf (b .args .settings)) (length (b .args .floats .now)) (length (b .args .bytes .now)) (case .given .0 .0) (case .given .0 .1 .0) (firsts f) (seconds f)
     (found-some (f .find-pairs .result) (firsts f) (seconds f) _ (f .find-pairs .ensures) (case .given .0 .0) (case .given .0 .1 .0) (case .given .1)) in
-    ((b .pre .0, U .few, U .below), b .pre .2)
+    ((b .pre .0, U .few, U .nodes), b .pre .2)
 
 answer-requires : tie.Need-answer-requires
 answer-requires c κs = search needs

@@ -11,7 +11,7 @@ use Rattle.graph_arrays.specs.Arrays.{edgesIn}
 use Rattle.repair_spec.specs.Distance.{zeroLength}
 use Rattle.repair_spec.specs.Pairing.{pair}
 use Rattle.repair_spec.specs.Repair.{Repairing, repaired, applyMatching, closeIf}
-use Rattle.repair_retrace.specs.Outcome.{under}
+use Rattle.repair_retrace.specs.Outcome.{soFar}
 use Rattle.repair_retrace.specs.declared.Applied.{Applied}
 use Rattle.repair_retrace.specs.Answer.{Answers}
 use Rattle.repair_closing.proofs.Closing.{answers-open, answers-none, node-below, answers-refused, answers-joined}
@@ -43,7 +43,7 @@ two c = omega (arith, ends-of c .before .before .if2 .left)
 abbrev last : tie.After-apply-pair → Repairing
 last c =
     let b = start (odd-of c) in
-    applyMatching (b .args .most) (b .args .number) (b .args .n) (pair (ends-of c .before .wide .result) (ends-of c .wide2 .result) ∷ []) (under (edgesIn (b .args .m) (entry b)) zeroLength)
+    applyMatching (b .args .most) (b .args .number) (b .args .n) (pair (ends-of c .before .wide .result) (ends-of c .wide2 .result) ∷ []) (soFar (edgesIn (b .args .m) (entry b)) zeroLength)
 
 -- by the answer that a branch found
 made : (c : tie.After-apply-pair) (answer : Applied) → c .apply-pair .result ≡ answer → Answers (start (odd-of c) .args .n) (last c) answer (after c)
@@ -99,7 +99,7 @@ returns-3 c =
     let w = ends-of p in
     let f = odd-of p in
     let b = start f in
-    subst (λ (x : Applied). Answers (b .args .n) (closeIf (b .args .closing) (b .args .most) (b .args .number) (b .args .n) (repaired (under (edgesIn (b .args .m) (entry b)) (b .args .sum)))) x (after p)) (sym (c .enum-told .given .1))
+    subst (λ (x : Applied). Answers (b .args .n) (closeIf (b .args .closing) (b .args .most) (b .args .number) (b .args .n) (repaired (soFar (edgesIn (b .args .m) (entry b)) (b .args .sum)))) x (after p)) (sym (c .enum-told .given .1))
     (answers-refused (b .args .most) (b .args .number) (b .args .n) (b .args .m) (b .args .sum) (entry b) (b .pre .1) (b .args .closing) (not-false (b .args .closing) (f .before .before .before .before .before .before .if1 .left))
     (listed f) (f .odd-nodes .result) (f .odd-nodes .ensures) (two p) (w .before .wide .result) (w .wide2 .result) (w .before .wide .ensures) (w .wide2 .ensures) _ (after p) (made p _ (c .enum-told .given .1)))
 

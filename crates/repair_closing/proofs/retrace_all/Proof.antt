@@ -7,7 +7,7 @@ use Rattle.graph_arrays.specs.Arrays.{edgesIn}
 use Rattle.repair_spec.specs.Distance.{zeroLength}
 use Rattle.repair_spec.specs.PairsIn.{pairsIn}
 use Rattle.repair_spec.specs.Repair.{Repairing, applyMatching, closeIf}
-use Rattle.repair_retrace.specs.Outcome.{under}
+use Rattle.repair_retrace.specs.Outcome.{soFar}
 use Rattle.repair_retrace.specs.declared.Applied.{Applied}
 use Rattle.repair_retrace.specs.Answer.{Answers}
 use Rattle.repair_search.proofs.Touched.{unreached-new}
@@ -20,7 +20,7 @@ entry c = adjacency (c .args .ends .now) (c .args .weights .now) (c .args .next 
 
 -- the repair by the pairs
 abbrev paired : tie.Start → Repairing
-paired c = applyMatching (c .args .most) (c .args .number) (c .args .n) (pairsIn (c .args .firsts .now) (c .args .seconds .now) 0 (c .args .pairs)) (under (edgesIn (c .args .m) (entry c)) zeroLength)
+paired c = applyMatching (c .args .most) (c .args .number) (c .args .n) (pairsIn (c .args .firsts .now) (c .args .seconds .now) 0 (c .args .pairs)) (soFar (edgesIn (c .args .m) (entry c)) zeroLength)
 
 abbrev start : tie.After-apply-matching → tie.Start
 start c = c .before .before .before .before .before .before .before .before .before

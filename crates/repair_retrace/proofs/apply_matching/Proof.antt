@@ -11,7 +11,7 @@ use Rattle.repair_spec.specs.Pairing.{pair}
 use Rattle.repair_spec.specs.Repair.{Repairing, applyMatching}
 use Rattle.graph_arrays.specs.Arrays.{edgesIn}
 use Rattle.repair_search.specs.Touched.{Unreached}
-use Rattle.repair_retrace.specs.Outcome.{under}
+use Rattle.repair_retrace.specs.Outcome.{soFar}
 use Rattle.repair_retrace.specs.Answer.{Answers}
 use Rattle.repair_retrace.proofs.Matching.{Applying, applying-begin, applying-refused, applying-step, applying-end}
 use Rattle.repair_retrace.proofs.apply_matching.Statement.{statement}
@@ -23,7 +23,7 @@ use Rattle.widen.proofs.wide.Reads as wide-reads
 
 abbrev Inv-loop : tie.InvT-loop
 Inv-loop ends₀ weights₀ next₀ heads₀ n m dist₀ tree₀ touched₀ firsts seconds pairs sum most number total₀ count₀ i₀ ends weights next heads dist tree touched total count i =
-    Unreached n dist tree touched × Applying most number n firsts seconds pairs (applyMatching most number n (pairsIn firsts seconds 0 pairs) (under (edgesIn m (adjacency ends₀ weights₀ next₀ heads₀)) sum)) (adjacency ends weights next heads) i count total
+    Unreached n dist tree touched × Applying most number n firsts seconds pairs (applyMatching most number n (pairsIn firsts seconds 0 pairs) (soFar (edgesIn m (adjacency ends₀ weights₀ next₀ heads₀)) sum)) (adjacency ends weights next heads) i count total
 
 abbrev μ-loop : tie.MeasureT-loop
 μ-loop ends₀ weights₀ next₀ heads₀ n m dist₀ tree₀ touched₀ firsts seconds pairs sum most number total₀ count₀ i₀ ends weights next heads dist tree touched total count i = pairs - i
@@ -46,16 +46,16 @@ after c = adjacency (c .apply-pair .last .0) (c .apply-pair .last .1 .0) (c .app
 
 -- what all pairs are to make
 abbrev whole : tie.Start Inv-loop μ-loop → Repairing
-whole c = applyMatching (c .args .most) (c .args .number) (c .args .n) (pairsIn (c .args .firsts .now) (c .args .seconds .now) 0 (c .args .pairs)) (under (edgesIn (c .args .m) (entry c)) (c .args .sum))
+whole c = applyMatching (c .args .most) (c .args .number) (c .args .n) (pairsIn (c .args .firsts .now) (c .args .seconds .now) 0 (c .args .pairs)) (soFar (edgesIn (c .args .m) (entry c)) (c .args .sum))
 
 -- what the pair made, by the answer that a branch found
 made : (c : tie.After-apply-pair Inv-loop μ-loop) (answer : Applied) → c .apply-pair .result ≡ answer → Answers (turn (pair-of c) .before .before .args .n)
     (applyMatching (turn (pair-of c) .before .before .args .most) (turn (pair-of c) .before .before .args .number) (turn (pair-of c) .before .before .args .n) (pair (pair-of c .before .before .wide .result) (pair-of c .wide2 .result) ∷ [])
-    (under (edgesIn (turn (pair-of c) .before .loop .count) (now-at (turn (pair-of c) .before))) (turn (pair-of c) .before .loop .total))) answer (after c)
+    (soFar (edgesIn (turn (pair-of c) .before .loop .count) (now-at (turn (pair-of c) .before))) (turn (pair-of c) .before .loop .total))) answer (after c)
 made c answer e =
     let l = turn (pair-of c) .before in
     let b = l .before in
-    subst (λ (x : Applied). Answers (b .args .n) (applyMatching (b .args .most) (b .args .number) (b .args .n) (pair (pair-of c .before .before .wide .result) (pair-of c .wide2 .result) ∷ []) (under (edgesIn (l .loop .count) (now-at l)) (l .loop .total))) x (after c))
+    subst (λ (x : Applied). Answers (b .args .n) (applyMatching (b .args .most) (b .args .number) (b .args .n) (pair (pair-of c .before .before .wide .result) (pair-of c .wide2 .result) ∷ []) (soFar (edgesIn (l .loop .count) (now-at l)) (l .loop .total))) x (after c))
     e (c .apply-pair .ensures .0)
 
 loop-holds : tie.Need-loop-holds Inv-loop μ-loop
@@ -84,7 +84,7 @@ apply-pair-requires c κs =
     let t = c .before .before .before .before .before .before .before in
     let l = turn t .before in
     let b = l .before in
-    let p = b .pre .0 .3 (l .loop .i) (turn t .loop-test .taken) in
+    let p = b .pre .0 .3 .among (l .loop .i) (turn t .loop-test .taken) in
     ((omega (arith, t .before .before .wide .ensures, p .0), omega (arith, t .wide2 .ensures, p .1), b .pre .0 .0, l .loop .inv .0), l .loop .inv .1 .held)
 
 enum-known-step : tie.Need-enum-known-step Inv-loop μ-loop

@@ -11,14 +11,14 @@ Inv-loop file start count edges₀ at₀ link₀ edges at link = Linking file st
 abbrev μ-loop : tie.MeasureT-loop
 μ-loop file start count edges₀ at₀ link₀ edges at link = count - link
 
-no-edge-requires : tie.Need-no-edge-requires Inv-loop μ-loop
-no-edge-requires c κs = tt
+no-link-requires : tie.Need-no-link-requires Inv-loop μ-loop
+no-link-requires c κs = tt
 
 loop-holds : tie.Need-loop-holds Inv-loop μ-loop
-loop-holds c = link-start (c .before .before .args .file .now) (c .before .before .args .start) (c .before .before .args .count) (c .no-edge .result) (c .before .before .pre) (c .no-edge .ensures)
+loop-holds c = link-start (c .before .before .args .file .now) (c .before .before .args .start) (c .before .before .args .count) (c .no-link .result) (c .before .before .pre) (c .no-link .ensures)
 
-edge-of-requires : tie.Need-edge-of-requires Inv-loop μ-loop
-edge-of-requires c κs = tt
+link-of-requires : tie.Need-link-of-requires Inv-loop μ-loop
+link-of-requires c κs = tt
 
 mul-edges : tie.Need-mul-edges Inv-loop μ-loop
 mul-edges c = omega (arith, c .before .before .before .before .before .pre .few-links)
@@ -36,7 +36,7 @@ loop-less : tie.Need-loop-less Inv-loop μ-loop
 loop-less c = omega arith
 
 loop-again : tie.Need-loop-again Inv-loop μ-loop
-loop-again c = link-on (c .before .before .before .before .before .args .file .now) (c .before .before .before .before .before .args .start) (c .before .before .before .before .before .args .count) (c .before .before .loop .at) (c .before .before .loop .link) (c .before .before .loop .edges) (c .before .before .loop .inv) (c .before .loop-test .taken) _ (c .edge-of .ensures)
+loop-again c = link-on (c .before .before .before .before .before .args .file .now) (c .before .before .before .before .before .args .start) (c .before .before .before .before .before .args .count) (c .before .before .loop .at) (c .before .before .loop .link) (c .before .before .loop .edges) (c .before .before .loop .inv) (c .before .loop-test .taken) _ (c .link-of .ensures)
 
 returns : tie.Need-returns Inv-loop μ-loop
 returns c = link-end (c .before .before .before .before .args .file .now) (c .before .before .before .before .args .start) (c .before .before .before .before .args .count) (c .before .loop .at) (c .before .loop .link) (c .before .loop .edges) (c .before .loop .inv) (c .loop-test .left)
@@ -47,9 +47,9 @@ read-links-spec =
     (tie.spec
     Inv-loop
     μ-loop
-    no-edge-requires
+    no-link-requires
     loop-holds
-    edge-of-requires
+    link-of-requires
     mul-edges
     array-set-from-edges
     add-at

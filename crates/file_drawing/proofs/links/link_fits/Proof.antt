@@ -1,8 +1,8 @@
--- `file_drawing::links::edge_fits` meets its contract. Assumes nothing.
+-- `file_drawing::links::link_fits` meets its contract. Assumes nothing.
 use mathlib.Core.Path.{_∙_}
 use borrow.Author.Needs.{needs}
-use Rattle.file_drawing.proofs.links.edge_fits.Statement.{statement}
-use Rattle.file_drawing.proofs.links.edge_fits.Tie as tie
+use Rattle.file_drawing.proofs.links.link_fits.Statement.{statement}
+use Rattle.file_drawing.proofs.links.link_fits.Tie as tie
 
 end-fits-requires : tie.Need-end-fits-requires
 end-fits-requires c κs = search needs
@@ -16,5 +16,5 @@ both-requires c κs = search needs
 returns : tie.Need-returns
 returns c = c .both .ensures ∙ rw (c .before .before .end-fits .ensures, c .before .end-fits2 .ensures)
 
-pub edge-fits-spec : {M : Type 1} → statement M
-edge-fits-spec = tie.close (tie.spec end-fits-requires end-fits-requires-2 both-requires returns)
+pub link-fits-spec : {M : Type 1} → statement M
+link-fits-spec = tie.close (tie.spec end-fits-requires end-fits-requires-2 both-requires returns)
