@@ -1,4 +1,4 @@
--- The split points that stay, one after the other: a point equal to an end of the segment goes, and so does one equal to the point that stayed before it. Assumes nothing.
+-- The split points that stay, one after the other: a point equal to an end of the segment goes, and so does one equal to the point that stayed before it.
 use mathlib.Core.Bool.{Bool, _&&_, not, cond}
 use mathlib.Core.List.{List}
 use Prim.Native.Nat.{ℕ, zero, suc, _+_}

@@ -1,4 +1,4 @@
--- Points in two flat lists, by their places. Assumes nothing.
+-- Points in two flat lists, by their places.
 use mathlib.Core.List.{List}
 use Prim.Native.Nat.{ℕ, _≤_, _^_}
 use lib.ListN.{getD}

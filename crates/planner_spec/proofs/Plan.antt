@@ -1,5 +1,5 @@
 -- The plan by cases, in the order in which code finds them; and what an accepted plan is.
-use mathlib.Core.Path.{_≡_, refl, ap, _∙_}
+use mathlib.Core.Path.{_≡_, refl, sym, ap, subst, _∙_}
 use mathlib.Core.Logic.{_⊎_, inl, inr}
 use mathlib.Core.List.{List, [], _∷_}
 use mathlib.Core.Bool.{Bool, true, false, not, true≢false}
@@ -169,3 +169,13 @@ file-planned file lent answer h = go (verdict (readConditions file)) refl
     go : (v : Verdict) → verdict (readConditions file) ≡ v → (verdict (readConditions file) ≡ accepted) × (plan file lent ≡ planDrawing (drawingIn file) lent)
     go (refused n) e = let k : refusal n ≡ planned answer = rw (file-refused file lent n e) at h in absurd (true≢false (cc))
     go accepted e = (e, file-accepted file lent e)
+
+-- the record of a line that is planned has room in the output
+pub planned-room : (file : List ℕ) (lent : Lent) (answer : Planned) → plan file lent .answer ≡ planned answer → 6 + 16 * answer .points ≤ length (lent .output)
+unfolding answerFor
+planned-room file lent answer h =
+    let f = file-planned file lent answer h .1 in
+    let d = drawingIn file in
+    let g : planGraph (buildGraph d) (d .settings) lent .answer ≡ planned answer = ap (λ (o : Outcome). o .answer) (sym (f ∙ drawing-graph d lent)) ∙ h in
+    let D = drawn (buildGraph d) (d .settings) lent answer g in
+    subst (λ (a : Planned). 6 + 16 * a .points ≤ length (lent .output)) (D .answers) (D .room)
