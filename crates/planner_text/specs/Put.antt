@@ -5,6 +5,7 @@ use mathlib.Core.List.{List}
 use lib.ListN.{length, drop}
 use lib.Ieee.{binary64}
 use lib.Seq.{sets}
+use Rattle.limits.specs.Limits.{mostEdges}
 use Rattle.grid.specs.Grid.{readPlace}
 use Rattle.drawing_spec.specs.Bytes.{number}
 use Rattle.drawing_spec.specs.Drawing.{Point}
@@ -26,11 +27,7 @@ pointAt output from = record { x = placeAt (readPlace (number 8 (drop from outpu
 abbrev pub textRoom : ℕ
 textRoom = 88200
 
--- the points of the longest line
-abbrev pub mostPoints : ℕ
-mostPoints = 4001
-
--- A retrace has bits to print, and the output holds the record's points, no more than the longest line has.
+-- A retrace has bits to print, and the output holds the record's points, at most one more than edges.
 abbrev pub Printable : Answer → List ℕ → Type 0
 Printable (Refused k) output = Unit
-Printable (Planned x before after points) output = Nonneg binary64 x × (points ≤ mostPoints) × (6 + 16 * points ≤ length output)
+Printable (Planned x before after points) output = Nonneg binary64 x × (points ≤ mostEdges + 1) × (6 + 16 * points ≤ length output)

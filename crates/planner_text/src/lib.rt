@@ -1,23 +1,22 @@
-// What the program `plan` prints, made as one text, so that it is written by one call: 4,001 points in a call each, or in
-// several, took longer than their plan.
+// What the program `plan` prints, made as one text, so that it is written by one call: number by number, the calls took longer than
+// the plan. A crate of its own, since it is the program's alone.
 ghost use mathlib.Core.Path.{_≡_};
 ghost use mathlib.Core.List.{_∷_, [], _++_};
 ghost use Prim.Native.Nat.{_+_, _*_, _≤_};
-ghost use lib.ListN.{length, take, drop};
+ghost use lib.ListN.{length, drop};
 ghost use lib.Ieee.{binary64, toBits};
 ghost use Rattle.io.specs.Counts.{Counts};
 ghost use Rattle.sums.specs.Key.{Nonneg};
 ghost use Rattle.drawing_spec.specs.Read.{points};
+ghost use Rattle.planner_spec.specs.LineRecord.{inFront};
 ghost use Rattle.planner_graph.specs.Answer.{answerOf};
 ghost use Rattle.planner_text.specs.Text.{decimal, hex, steps, pointText, pointsText, field, firstLine, printed, refusedWord, blank, lineEnd};
 ghost use Rattle.planner_text.specs.Put.{Put, pointAt, textRoom, Printable};
+use grid::ORIGIN;
 use planner_graph::Answer;
 
 // Room for the longest text: the first line has at most 83 bytes, each point at most 22.
 pub const TEXT_ROOM: usize = 88_200;
-
-// The place of 0.
-const ORIGIN: u32 = 4_194_304;
 
 const BLANK: u8 = 32;
 
@@ -153,11 +152,13 @@ fn bits_of(x: f64) -> u64
     f64::to_bits(x)
 }
 
-// What `plan` prints of an answer and of the output that goes with it, at the front of the text. The answer is how many bytes it has.
+// What `plan` prints of an answer and of the output that goes with it, at the front of the text, whose later bytes keep their value.
+// The answer is how many bytes it has.
 pub fn text_of(answer: Answer, output: &[u8], text: &mut [u8]) -> usize
     requires room { ⌜ textRoom ≤ length (now text) ⌝ }
     requires answer { ⌜ Printable answer (now output) ⌝ }
-    ensures { λ r. ⌜ Counts r (now (text .exit)) × (take r (now (text .exit)) ≡ printed (answerOf answer) (now (output .entry))) ⌝ }
+    ensures text { λ _. ⌜ now (text .exit) ≡ inFront (printed (answerOf answer) (now (output .entry))) (now (text .entry)) ⌝ }
+    ensures count { λ r. ⌜ (r ≡ length (printed (answerOf answer) (now (output .entry)))) × Counts r (now (text .exit)) ⌝ }
 {
     match answer {
         Answer::Refused(number) => put_refusal(text, number),
