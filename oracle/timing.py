@@ -10,8 +10,8 @@ run in one process on the same drawings; a time is the least of nine rounds in w
 of a call. The port also writes the record of the line, which the published functions leave to their caller.
 
 PLAN is target/bin/plan, RUST an oracle built with --petgraph alone: each reads a drawing on standard input and prints
-its answer. A time is that of a whole run, from the start of the process to its end: the least of nine rounds, each the
-mean of 100 runs, in which the two take turns.
+its answer, here to /dev/null. A time is that of a whole run, from the start of the process to its end: the least of nine
+rounds, each the mean of several runs, in which the two take turns.
 """
 import os
 import pathlib
@@ -251,12 +251,14 @@ def run_often(program, path, count):
 
 def print_programs(plan, rust):
     head("drawing (µs for a run)", "port", "Rust", "port by it")
-    rows = [*((name, file) for name, file, lent in small() if not lent), ("cross", d.drawing(CROSS)), ("lace, closed", g.write(lace(), flags=1))]
+    rows = [*((name, file) for name, file, lent in small() if not lent), *((row[0], row[1]) for row in goals() if not row[2])]
     for name, file in rows:
         with tempfile.NamedTemporaryFile() as path:
             path.write(file)
             path.flush()
-            rounds = [(run_often(plan, path.name, 100), run_often(rust, path.name, 100)) for _ in range(9)]
+            # so many runs that a round takes some 50 ms
+            count = max(1, int(5e7 / run_often(rust, path.name, 1)))
+            rounds = [(run_often(plan, path.name, count), run_often(rust, path.name, count)) for _ in range(9)]
         port, other = map(min, zip(*rounds))
         print_row(name, [micro(port), micro(other), ratio(port, other)], range(3))
 

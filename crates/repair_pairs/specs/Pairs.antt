@@ -4,11 +4,15 @@ use Prim.Native.Nat.{ℕ}
 use lib.ListN.{length}
 use Rattle.drawing_spec.specs.Drawing.{Settings}
 use Rattle.drawing_spec.specs.Refusal.{refused, accepted, verdict}
-use Rattle.graph_spec.specs.Graph.{Graph}
+use Rattle.graph_spec.specs.Graph.{Edge, Graph}
 use Rattle.graph_spec.specs.Odd.{oddNodes}
-use Rattle.repair_spec.specs.Pairing.{Pair}
-use Rattle.repair_spec.specs.Repair.{pairsOf}
+use Rattle.repair_spec.specs.Pairing.{Pair, optimalPairs}
+use Rattle.repair_spec.specs.Repair.{rows, distanceIn, pairsOf}
 use Rattle.repair_pairs.specs.Refusal.{tableConditions}
+
+-- Optimal's pairs of the odd nodes of n nodes and these edges, by the least distances between them
+abbrev pub optimalFor : ℕ → List Edge → List Pair
+optimalFor n es = let odd = oddNodes n es in optimalPairs (distanceIn (rows n es odd)) odd
 
 -- the number of a refusal, or the number of odd nodes and the pairs
 pub data Found : Type 0 where

@@ -7,11 +7,10 @@ ghost use Rattle.file_records.specs.Meaning.{settingsOf};
 ghost use Rattle.graph_spec.specs.Odd.{oddNodes};
 ghost use Rattle.graph_adjacency.specs.Lists.{adjacency};
 ghost use Rattle.graph_arrays.specs.Arrays.{edgesIn, graphIn, EdgesHeld, NodesHeld, Front};
-ghost use Rattle.repair_spec.specs.Pairing.{optimalPairs};
 ghost use Rattle.repair_spec.specs.PairsIn.{pairsIn, PairRoom};
-ghost use Rattle.repair_spec.specs.Repair.{rows, distanceIn, pairsOf};
+ghost use Rattle.repair_spec.specs.Repair.{pairsOf};
 ghost use Rattle.repair_pairs.specs.Refusal.{Room, refusal};
-ghost use Rattle.repair_pairs.specs.Pairs.{pairsFor};
+ghost use Rattle.repair_pairs.specs.Pairs.{optimalFor, pairsFor};
 ghost use Rattle.repair_pairs.specs.Meaning.{foundIn};
 use file_records::Settings;
 use limits::ARC_ROOM;
@@ -67,7 +66,7 @@ fn optimal_of(
     requires edges { ⌜ EdgesHeld n m (adjacency (now ends) (now weights) (now next) (now heads)) ⌝ }
     requires listed { ⌜ Front (oddNodes n (edgesIn m (adjacency (now ends) (now weights) (now next) (now heads)))) (now odd) count × (2 < count) ⌝ }
     requires room { ⌜ Room count (length (now floats)) (length (now bytes)) × PairRoom (now firsts) (now seconds) ⌝ }
-    ensures { λ r. ⌜ pairsIn (now (firsts .exit)) (now (seconds .exit)) 0 r ≡ optimalPairs (distanceIn (rows n (edgesIn m (adjacency (now (ends .entry)) (now (weights .entry)) (now (next .entry)) (now (heads .entry)))) (oddNodes n (edgesIn m (adjacency (now (ends .entry)) (now (weights .entry)) (now (next .entry)) (now (heads .entry))))))) (oddNodes n (edgesIn m (adjacency (now (ends .entry)) (now (weights .entry)) (now (next .entry)) (now (heads .entry))))) ⌝ }
+    ensures { λ r. ⌜ pairsIn (now (firsts .exit)) (now (seconds .exit)) 0 r ≡ optimalFor n (edgesIn m (adjacency (now (ends .entry)) (now (weights .entry)) (now (next .entry)) (now (heads .entry)))) ⌝ }
 {
     repair_distances::fill_rows(ends, weights, next, heads, n, m, odd, count, floats);
     repair_optimal::optimal_pairs(floats, bytes, odd, count, firsts, seconds)
