@@ -10,7 +10,7 @@ run in one process on the same drawings; a time is the least of nine rounds in w
 of a call. The port also writes the record of the line, which the published functions leave to their caller.
 
 PLAN is target/bin/plan, RUST an oracle built with --petgraph alone: each reads a drawing on standard input and prints
-its answer, here to /dev/null. A time is that of a whole run, from the start of the process to its end: the least of nine
+its answer, here to /dev/null. A time is that of a whole run, from the start of the process to its end: the least of fifteen
 rounds, each the mean of several runs, in which the two take turns.
 """
 import os
@@ -98,6 +98,7 @@ def growth():
 
 def small():
     yield "an empty file", b"", {}
+    yield "an empty file, no tables lent", b"", dict(f64=0, byte=0)
     yield "settings alone", d.settings(), {}
     yield "settings alone, no tables lent", d.settings(), dict(f64=0, byte=0)
     yield "a dot", d.drawing([[(1, 2)]]), {}
@@ -256,9 +257,9 @@ def print_programs(plan, rust):
         with tempfile.NamedTemporaryFile() as path:
             path.write(file)
             path.flush()
-            # so many runs that a round takes some 50 ms
-            count = max(1, int(5e7 / run_often(rust, path.name, 1)))
-            rounds = [(run_often(plan, path.name, count), run_often(rust, path.name, count)) for _ in range(9)]
+            # so many runs that a round takes some 100 ms
+            count = max(1, int(1e8 / run_often(rust, path.name, 1)))
+            rounds = [(run_often(plan, path.name, count), run_often(rust, path.name, count)) for _ in range(15)]
         port, other = map(min, zip(*rounds))
         print_row(name, [micro(port), micro(other), ratio(port, other)], range(3))
 
