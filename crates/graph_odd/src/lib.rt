@@ -43,8 +43,8 @@ fn count_degrees(
     }
 }
 
-// Lists the odd ones of n nodes, ascending; the answer is how many there are. The array is cleared first: behind a
-// reference its length is not known until it is written whole.
+// Lists the odd ones of n nodes, ascending; the answer is how many there are. What stands behind them is left open. The
+// array is cleared first: behind a reference its length is not known until it is written whole.
 pub fn odd_nodes(
     ends: &[u16; ARC_ROOM],
     weights: &[f64; EDGE_ROOM],

@@ -173,7 +173,8 @@ fn search_pairs(
     sum
 }
 
-// The number of odd nodes and of pairs; or, past the pairs, the sum of their least distances too.
+// The number of odd nodes and of pairs; or, past the pairs, the sum of their least distances too. What the arrays and the
+// tables hold afterwards is left open, here and below.
 pub fn end_of_pairs(
     xs: &[u32; MOST_NODES],
     ys: &[u32; MOST_NODES],

@@ -9,11 +9,11 @@ use Rattle.planner_spec.specs.Plan.{refusal, planned}
 use Rattle.planner_text.specs.Text.{printed}
 
 -- the point x and y grid steps from 0, where neither is negative
-abbrev steps : ℕ → ℕ → Point
-steps x y = record { x = origin + x; y = origin + y }
+abbrev at : ℕ → ℕ → Point
+at x y = record { x = origin + x; y = origin + y }
 
 -- document 01's example: `ok 0000000000000000 2 2 2`, `0 0` and `3072 4096`
-segment : printed (planned (record { retrace = 0; before = 2; after = 2; points = 2 })) (lineRecord (steps 0 0 ∷ steps 3072 4096 ∷ []))
+segment : printed (planned (record { retrace = 0; before = 2; after = 2; points = 2 })) (lineRecord (at 0 0 ∷ at 3072 4096 ∷ []))
     ≡ 111 ∷ 107 ∷ 32 ∷ 48 ∷ 48 ∷ 48 ∷ 48 ∷ 48 ∷ 48 ∷ 48 ∷ 48 ∷ 48 ∷ 48 ∷ 48 ∷ 48 ∷ 48 ∷ 48 ∷ 48 ∷ 48 ∷ 32 ∷ 50 ∷ 32 ∷ 50 ∷ 32 ∷ 50 ∷ 10 ∷ 48 ∷ 32 ∷ 48 ∷ 10 ∷ 51 ∷ 48 ∷ 55 ∷ 50 ∷ 32 ∷ 52 ∷ 48 ∷ 57 ∷ 54 ∷ 10 ∷ []
 unfolding printed lineRecord
 segment = refl

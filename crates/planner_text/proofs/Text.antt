@@ -10,7 +10,7 @@ use lib.Dec.{ltb, leb}
 use borrow.Author.Tests.{ltb-true, ltb-false, leb-true, leb-false, lt-ltb, le-ltb}
 use Rattle.grid.specs.Grid.{origin}
 use Rattle.io.specs.Digits.{glyph, digits, Fewest}
-use Rattle.planner_text.specs.Text.{decimalIn, decimal, hex, minus, steps}
+use Rattle.planner_text.specs.Text.{decimalIn, decimal, hex, minus, stepsText}
 
 -- ---- a decimal, digit by digit
 
@@ -82,18 +82,18 @@ few-digits b least most n r some fits low h = go (leb r most) refl
 
 -- ---- grid steps
 
-pub steps-below : (place : ℕ) → place < origin → minus ∷ decimal (origin - place) ≡ steps place
-unfolding steps
+pub steps-below : (place : ℕ) → place < origin → minus ∷ decimal (origin - place) ≡ stepsText place
+unfolding stepsText
 steps-below place h = sym (ap (λ (t : Bool). elim t [ true ↦ minus ∷ decimal (origin - place) | false ↦ decimal (place - origin) ]) (lt-ltb place origin h))
 
-pub steps-above : (place : ℕ) → origin ≤ place → decimal (place - origin) ≡ steps place
-unfolding steps
+pub steps-above : (place : ℕ) → origin ≤ place → decimal (place - origin) ≡ stepsText place
+unfolding stepsText
 steps-above place h = sym (ap (λ (t : Bool). elim t [ true ↦ minus ∷ decimal (origin - place) | false ↦ decimal (place - origin) ]) (le-ltb place origin h))
 
-pub steps-short : (place : ℕ) → place < 2 ^ 32 → length (steps place) ≤ 10
+pub steps-short : (place : ℕ) → place < 2 ^ 32 → length (stepsText place) ≤ 10
 unfolding decimal
 steps-short place low = go (ltb place origin) refl
   where
-    go : (t : Bool) → ltb place origin ≡ t → length (steps place) ≤ 10
+    go : (t : Bool) → ltb place origin ≡ t → length (stepsText place) ≤ 10
     go true e = omega (arith, ap length (steps-below place (ltb-true place origin e)), decimal-short 20 7 (origin - place) (omega arith) (omega arith))
     go false e = omega (arith, ap length (steps-above place (ltb-false place origin e)), decimal-short 20 10 (place - origin) (omega arith) (omega arith))

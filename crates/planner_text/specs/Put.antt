@@ -1,4 +1,4 @@
--- Bytes put into a text from a place on.
+-- Bytes put into a text from a place on; which answers can be printed, and the room that a text takes.
 use Prim.Native.Nat.{ℕ, _+_, _*_, _≤_}
 use mathlib.Core.Path.{_≡_}
 use mathlib.Core.List.{List}
@@ -19,15 +19,15 @@ pub record Put (before : List ℕ) (at : ℕ) (bytes after : List ℕ) (end : �
   pub is : after ≡ sets before at bytes
   pub ends : end ≡ at + length bytes
 
--- the point in the 16 bytes from `from` on
+-- the point in the 16 bytes from `from` on; what the planner writes is on the grid
 abbrev pub pointAt : List ℕ → ℕ → Point
 pointAt output from = record { x = placeAt (readPlace (number 8 (drop from output))); y = placeAt (readPlace (number 8 (drop (from + 8) output))) }
 
--- room for the longest text: at most 83 bytes for the first line, 22 for each point
+-- room for the longest text: at most 83 bytes for the first line and 22 for each of 4,001 points, 10 more that `put_points` asks for, rounded up
 abbrev pub textRoom : ℕ
 textRoom = 88200
 
 -- A retrace has bits to print, and the output holds the record's points, at most one more than edges.
 abbrev pub Printable : Answer → List ℕ → Type 0
 Printable (Refused k) output = Unit
-Printable (Planned x before after points) output = Nonneg binary64 x × (points ≤ mostEdges + 1) × (6 + 16 * points ≤ length output)
+Printable (Planned x before after count) output = Nonneg binary64 x × (count ≤ mostEdges + 1) × (6 + 16 * count ≤ length output)

@@ -40,15 +40,15 @@ decimal n = decimalIn 20 n
 unfoldable pub hex : ℕ → List ℕ
 hex n = digits 16 16 n
 
--- the coordinate at a place, in signed grid steps from 0
-unfoldable pub steps : ℕ → List ℕ
+-- the coordinate whose grid place is `place`, in signed grid steps from 0
+unfoldable pub stepsText : ℕ → List ℕ
 unfolding decimal
-steps place = elim (ltb place origin) [ true ↦ minus ∷ decimal (origin - place) | false ↦ decimal (place - origin) ]
+stepsText place = elim (ltb place origin) [ true ↦ minus ∷ decimal (origin - place) | false ↦ decimal (place - origin) ]
 
 -- a point on a line of its own, x then y
 unfoldable pub pointText : Point → List ℕ
-unfolding steps
-pointText p = (steps (p .x) ++ (blank ∷ [])) ++ (steps (p .y) ++ (lineEnd ∷ []))
+unfolding stepsText
+pointText p = (stepsText (p .x) ++ (blank ∷ [])) ++ (stepsText (p .y) ++ (lineEnd ∷ []))
 
 unfoldable pub pointsText : List Point → List ℕ
 unfolding pointText
@@ -63,7 +63,7 @@ field n end = decimal n ++ (end ∷ [])
 -- `ok`, the retrace's bits, odd before, odd after and the number of points, one blank between them
 unfoldable pub firstLine : ℕ → ℕ → ℕ → ℕ → List ℕ
 unfolding field hex
-firstLine retrace before after points = (((okWord ++ (hex retrace ++ (blank ∷ []))) ++ field before blank) ++ field after blank) ++ field points lineEnd
+firstLine retrace before after count = (((okWord ++ (hex retrace ++ (blank ∷ []))) ++ field before blank) ++ field after blank) ++ field count lineEnd
 
 -- `refused N`; or the first line and then the points of the record in the output
 unfoldable pub printed : Answer → List ℕ → List ℕ

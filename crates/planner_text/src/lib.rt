@@ -10,12 +10,12 @@ ghost use Rattle.sums.specs.Key.{Nonneg};
 ghost use Rattle.drawing_spec.specs.Read.{points};
 ghost use Rattle.planner_spec.specs.LineRecord.{inFront};
 ghost use Rattle.planner_graph.specs.Answer.{answerOf};
-ghost use Rattle.planner_text.specs.Text.{decimal, hex, steps, pointText, pointsText, field, firstLine, printed, refusedWord, blank, lineEnd};
+ghost use Rattle.planner_text.specs.Text.{decimal, hex, stepsText, pointText, pointsText, field, firstLine, printed, refusedWord, blank, lineEnd};
 ghost use Rattle.planner_text.specs.Put.{Put, pointAt, textRoom, Printable};
 use grid::ORIGIN;
 use planner_graph::Answer;
 
-// Room for the longest text: the first line has at most 83 bytes, each point at most 22.
+// Room for the longest text: the first line has at most 83 bytes, each of at most 4,001 points 22.
 pub const TEXT_ROOM: usize = 88_200;
 
 const BLANK: u8 = 32;
@@ -79,10 +79,10 @@ fn put_field(text: &mut [u8], at: usize, n: u64, end: u8) -> usize
     put_byte(text, behind, end)
 }
 
-// Puts the coordinate at a place, in signed grid steps.
+// Puts the coordinate whose grid place is `place`, in signed grid steps.
 fn put_steps(text: &mut [u8], at: usize, place: u32) -> usize
     requires { ⌜ at + 21 ≤ length (now text) ⌝ }
-    ensures put { λ r. ⌜ Put (now (text .entry)) at (steps place) (now (text .exit)) r ⌝ }
+    ensures put { λ r. ⌜ Put (now (text .entry)) at (stepsText place) (now (text .exit)) r ⌝ }
     ensures short { λ r. ⌜ r ≤ at + 10 ⌝ }
 {
     if place < ORIGIN {
@@ -92,9 +92,10 @@ fn put_steps(text: &mut [u8], at: usize, place: u32) -> usize
     put_decimal(text, at, (place - ORIGIN) as u64)
 }
 
-// Puts the point that stands in 16 bytes of the output, on a line of its own.
+// Puts the point that stands in 16 bytes of the output, on a line of its own. The room asked for is more than it takes, since
+// `put_decimal` asks for that of 20 digits.
 fn put_point(text: &mut [u8], at: usize, output: &[u8], from: usize) -> usize
-    requires { ⌜ (at + 44 ≤ length (now text)) × (from + 16 ≤ length (now output)) ⌝ }
+    requires { ⌜ (at + 32 ≤ length (now text)) × (from + 16 ≤ length (now output)) ⌝ }
     ensures put { λ r. ⌜ Put (now (text .entry)) at (pointText (pointAt (now (output .entry)) from)) (now (text .exit)) r ⌝ }
     ensures short { λ r. ⌜ r ≤ at + 22 ⌝ }
 {
@@ -108,7 +109,7 @@ fn put_point(text: &mut [u8], at: usize, output: &[u8], from: usize) -> usize
 
 // Puts the first `count` points of the record in the output.
 fn put_points(text: &mut [u8], at: usize, output: &[u8], count: usize) -> usize
-    requires { ⌜ (at + 22 * count + 44 ≤ length (now text)) × (6 + 16 * count ≤ length (now output)) ⌝ }
+    requires { ⌜ (at + 22 * count + 10 ≤ length (now text)) × (6 + 16 * count ≤ length (now output)) ⌝ }
     ensures put { λ r. ⌜ Put (now (text .entry)) at (pointsText (points count (drop 6 (now (output .entry))))) (now (text .exit)) r ⌝ }
     ensures short { λ r. ⌜ r ≤ at + 22 * count ⌝ }
 {
@@ -153,7 +154,7 @@ fn bits_of(x: f64) -> u64
 }
 
 // What `plan` prints of an answer and of the output that goes with it, at the front of the text, whose later bytes keep their value.
-// The answer is how many bytes it has.
+// Returns how many bytes it has; that they are a part of the text (`Counts`) is what `&text[..k]` asks.
 pub fn text_of(answer: Answer, output: &[u8], text: &mut [u8]) -> usize
     requires room { ⌜ textRoom ≤ length (now text) ⌝ }
     requires answer { ⌜ Printable answer (now output) ⌝ }

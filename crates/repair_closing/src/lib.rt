@@ -18,7 +18,7 @@ use limits::MOST_PAIRS;
 use repair_retrace::Applied;
 
 // The two nodes that are left odd are joined, if `closing`. This retrace is summed by itself and then added
-// to `sum`. What the arrays hold after a refusal is not said.
+// to `sum`. What the arrays hold after a refusal is left open.
 fn close(
     ends: &mut [u16; ARC_ROOM],
     weights: &mut [f64; EDGE_ROOM],
@@ -70,7 +70,8 @@ fn close(
     Applied::Laid(sum + x, k)
 }
 
-// The retraces of the pairs, one after the other, and then `close`: all searches in the same arrays. What the arrays hold after a refusal is not said.
+// The retraces of the pairs, one after the other, and then `close`: all searches in the same arrays. What the arrays hold after a
+// refusal is left open.
 fn retrace_all(
     ends: &mut [u16; ARC_ROOM],
     weights: &mut [f64; EDGE_ROOM],
@@ -141,7 +142,7 @@ fn nothing_left(pairs: usize, closing: bool) -> bool
 }
 
 // The retraces of the pairs and the closing one, as `retrace_all` makes them. The arrays of the search are set only where there
-// is something to retrace.
+// is something to retrace. What the arrays of the edges hold after a refusal is left open.
 pub fn retrace_pairs(
     ends: &mut [u16; ARC_ROOM],
     weights: &mut [f64; EDGE_ROOM],

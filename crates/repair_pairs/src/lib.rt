@@ -127,8 +127,8 @@ pub enum Pairs {
 }
 
 // The pairs that repair retraces, in `firsts` and `seconds`; or the refusal 10 or 11, where Optimal has too many
-// odd nodes or too small a table. What stands in `firsts` and `seconds` behind the pairs, and after a refusal, is left
-// open.
+// odd nodes or too small a table. It is left open what stands
+// in `firsts` and `seconds` behind the pairs and after a refusal, and what the tables hold.
 pub fn find_pairs(
     xs: &[u32; MOST_NODES],
     ys: &[u32; MOST_NODES],

@@ -69,8 +69,8 @@ pub fn shortest_path(
 }
 
 // One retrace, between the nodes `from` and `to`: its copies laid, of which each weight is added to `sum`. Refused with
-// `number` where there would be more than `most` edges, which is known before a copy is laid. What the arrays hold after
-// a refusal is not said.
+// `number` where there would be more than `most` edges, which is known before a copy is laid. After a refusal it is
+// left open what the arrays hold.
 pub fn apply_pair(
     ends: &mut [u16; ARC_ROOM],
     weights: &mut [f64; EDGE_ROOM],
@@ -118,8 +118,8 @@ pub fn apply_pair(
     Applied::Laid(total, count)
 }
 
-// The retraces of the pairs, one after the other, each on the graph as it then is. What the arrays hold after a refusal is
-// not said.
+// The retraces of the pairs, one after the other, each on the graph as it then is. After a refusal it is
+// left open what the arrays hold.
 pub fn apply_matching(
     ends: &mut [u16; ARC_ROOM],
     weights: &mut [f64; EDGE_ROOM],

@@ -49,8 +49,8 @@ fn copy(
 }
 
 // The line of the circuit whose entries stand from `first` on. The answer is how many nodes it has. `nodes`: whatever
-// graph the circuit's nodes belong to, the line's do. The array is cleared first: behind a reference its length is not
-// known until it is written whole.
+// graph the circuit's nodes belong to, the line's do. What stands behind them is left open. The array is cleared first:
+// behind a reference its length is not known until it is written whole.
 pub fn whole(nodes: &[u16; LINE_ROOM], first: usize, line: &mut [u16; LINE_ROOM]) -> usize
     requires { ⌜ first < lineRoom ⌝ }
     ensures { λ r. ⌜ take r (now (line .exit)) ≡ nodesFrom first (now (nodes .entry)) ⌝ }
@@ -62,7 +62,7 @@ pub fn whole(nodes: &[u16; LINE_ROOM], first: usize, line: &mut [u16; LINE_ROOM]
 
 // The line of the circuit whose entries stand from `first` on, cut at the step by the edge i. Where no entry
 // was entered by i, it is the circuit. The answer is how many nodes it has. `nodes`: whatever graph the circuit's nodes
-// belong to, the line's do.
+// belong to, the line's do. What stands behind them is left open.
 pub fn cut(
     nodes: &[u16; LINE_ROOM],
     bys: &[u16; LINE_ROOM],

@@ -13,7 +13,7 @@ use limits::LINE_ROOM;
 use limits::MOST_NODES;
 
 // The circuit from s: the definition's answer for any graph. It is a line through all edges where no node is odd and all
-// are reached. The answer is how many nodes the line has.
+// are reached. The answer is how many nodes the line has; what stands behind them is left open.
 pub fn closed_line(
     ends: &[u16; ARC_ROOM],
     weights: &[f64; EDGE_ROOM],

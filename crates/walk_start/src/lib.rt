@@ -93,8 +93,8 @@ pub fn best(
     v
 }
 
-// Lists the nodes with edges, in ascending order; the answer is how many there are. The array is cleared first:
-// behind a reference its length is not known until it is written whole.
+// Lists the nodes with edges, in ascending order; the answer is how many there are. What stands behind them is left open.
+// The array is cleared first: behind a reference its length is not known until it is written whole.
 pub fn nodes_with_edges(
     ends: &[u16; ARC_ROOM],
     weights: &[f64; EDGE_ROOM],

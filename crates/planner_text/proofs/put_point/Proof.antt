@@ -4,7 +4,7 @@ use mathlib.Core.List.{[], _∷_, _++_}
 use Prim.Native.Nat.{ℕ}
 use native.Mathlib.Omega.{arith}
 use borrow.Author.Needs.{needs}
-use Rattle.planner_text.specs.Text.{blank, lineEnd, steps, pointText}
+use Rattle.planner_text.specs.Text.{blank, lineEnd, stepsText, pointText}
 use Rattle.planner_text.proofs.Put.{put-as, put-both}
 use Rattle.planner_text.proofs.put_point.Statement.{statement}
 use Rattle.planner_text.proofs.put_point.Tie as tie
@@ -47,7 +47,7 @@ returns c =
     let y = c .before .before .before .before .before .before .before .before .place-at2 .ensures in
     let sy = c .before .before .before .before .before .before .put-steps2 .ensures in
     let by = c .before .before .put-byte2 .ensures in (
-      put-as (ap₂ (λ (u v : ℕ). (steps u ++ (blank ∷ [])) ++ (steps v ++ (lineEnd ∷ []))) x y) (put-both (put-both (sx .0) bx) (put-both (sy .0) by)),
+      put-as (ap₂ (λ (u v : ℕ). (stepsText u ++ (blank ∷ [])) ++ (stepsText v ++ (lineEnd ∷ []))) x y) (put-both (put-both (sx .0) bx) (put-both (sy .0) by)),
       omega (arith, sx .1, bx .ends, sy .1, by .ends),
     )
 
