@@ -4,7 +4,7 @@ use native.Mathlib.Nat.{zero-add, sub-zero, zero-sub}
 use native.Mathlib.Omega.{arith}
 use mathlib.Core.Path.{_≡_, refl, sym, ap, _∙_}
 use mathlib.Core.List.{List, [], _∷_, _++_, map, map-append}
-use lib.ListN.{length, drop, replicate, length-append, length-replicate, length-map}
+use lib.ListN.{length, drop, replicate, length-replicate, length-map}
 use lib.Seq.{sets, sets-eq}
 use Rattle.lists.proofs.Parts.{sets-append}
 use Rattle.drawing_spec.specs.Drawing.{Point}

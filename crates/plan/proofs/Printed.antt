@@ -1,13 +1,13 @@
 -- What the planner answers can be printed: the output has room for the record of the line, and so for no more than 4,001 points.
-use mathlib.Core.Path.{_≡_, sym, ap, _∙_}
+use mathlib.Core.Path.{_≡_, sym, ap}
 use mathlib.Core.List.{List}
-use Prim.Native.Nat.{ℕ, _+_, _*_}
+use Prim.Native.Nat.{ℕ}
 use native.Mathlib.Omega.{arith}
 use lib.ListN.{length}
-use lib.Ieee.{Float, binary64, toBits}
+use lib.Ieee.{Float}
 use Rattle.planner_spec.specs.Plan as spec
 use Rattle.planner_spec.proofs.Plan.{planned-room}
-use Rattle.planner_graph.specs.Answer.{RetraceNonneg, answerOf}
+use Rattle.planner_graph.specs.Answer.{RetraceNonneg}
 use Rattle.planner_graph.specs.declared.Answer.{Answer}
 use Rattle.planner_graph.specs.declared.Answer.the-variants.{Refused, Planned}
 use Rattle.planner.specs.Answer.{call, after}

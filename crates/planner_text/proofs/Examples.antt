@@ -1,7 +1,7 @@
 -- Worked examples of what is printed.
 use mathlib.Core.Path.{_≡_, refl}
-use mathlib.Core.List.{List, [], _∷_}
-use Prim.Native.Nat.{ℕ, _+_, _-_, _*_}
+use mathlib.Core.List.{[], _∷_}
+use Prim.Native.Nat.{ℕ, _+_, _-_}
 use Rattle.grid.specs.Grid.{origin}
 use Rattle.drawing_spec.specs.Drawing.{Point}
 use Rattle.planner_spec.specs.LineRecord.{lineRecord}

@@ -2,14 +2,10 @@
 use Prim.Native.Nat.{ℕ, _+_, _*_, _≤_}
 use mathlib.Core.Path.{_≡_}
 use mathlib.Core.List.{List}
-use lib.ListN.{length, drop}
+use lib.ListN.{length}
 use lib.Ieee.{binary64}
 use lib.Seq.{sets}
 use Rattle.limits.specs.Limits.{mostEdges}
-use Rattle.grid.specs.Grid.{readPlace}
-use Rattle.drawing_spec.specs.Bytes.{number}
-use Rattle.drawing_spec.specs.Drawing.{Point}
-use Rattle.drawing_spec.specs.Read.{placeAt}
 use Rattle.sums.specs.Key.{Nonneg}
 use Rattle.planner_graph.specs.declared.Answer.{Answer}
 use Rattle.planner_graph.specs.declared.Answer.the-variants.{Refused, Planned}
@@ -18,10 +14,6 @@ use Rattle.planner_graph.specs.declared.Answer.the-variants.{Refused, Planned}
 pub record Put (before : List ℕ) (at : ℕ) (bytes after : List ℕ) (end : ℕ) : Type 0 where
   pub is : after ≡ sets before at bytes
   pub ends : end ≡ at + length bytes
-
--- the point in the 16 bytes from `from` on; what the planner writes is on the grid
-abbrev pub pointAt : List ℕ → ℕ → Point
-pointAt output from = record { x = placeAt (readPlace (number 8 (drop from output))); y = placeAt (readPlace (number 8 (drop (from + 8) output))) }
 
 -- room for the longest text: at most 83 bytes for the first line and 22 for each of 4,001 points, 10 more that `put_points` asks for, rounded up
 abbrev pub textRoom : ℕ

@@ -7,11 +7,11 @@ ghost use lib.ListN.{length, drop};
 ghost use lib.Ieee.{binary64, toBits};
 ghost use Rattle.io.specs.Counts.{Counts};
 ghost use Rattle.sums.specs.Key.{Nonneg};
-ghost use Rattle.drawing_spec.specs.Read.{points};
+ghost use Rattle.drawing_spec.specs.Read.{point, points};
 ghost use Rattle.planner_spec.specs.LineRecord.{inFront};
 ghost use Rattle.planner_graph.specs.Answer.{answerOf};
 ghost use Rattle.planner_text.specs.Text.{decimal, hex, stepsText, pointText, pointsText, field, firstLine, printed, refusedWord, blank, lineEnd};
-ghost use Rattle.planner_text.specs.Put.{Put, pointAt, textRoom, Printable};
+ghost use Rattle.planner_text.specs.Put.{Put, textRoom, Printable};
 use grid::ORIGIN;
 use planner_graph::Answer;
 
@@ -96,7 +96,7 @@ fn put_steps(text: &mut [u8], at: usize, place: u32) -> usize
 // `put_decimal` asks for that of 20 digits.
 fn put_point(text: &mut [u8], at: usize, output: &[u8], from: usize) -> usize
     requires { ⌜ (at + 32 ≤ length (now text)) × (from + 16 ≤ length (now output)) ⌝ }
-    ensures put { λ r. ⌜ Put (now (text .entry)) at (pointText (pointAt (now (output .entry)) from)) (now (text .exit)) r ⌝ }
+    ensures put { λ r. ⌜ Put (now (text .entry)) at (pointText (point (drop from (now (output .entry))))) (now (text .exit)) r ⌝ }
     ensures short { λ r. ⌜ r ≤ at + 22 ⌝ }
 {
     let x = file_records::place_at(output, from);

@@ -1,10 +1,11 @@
 -- `planner_text::put_point` meets its contract. Assumes nothing.
-use mathlib.Core.Path.{ap₂}
+use mathlib.Core.Path.{sym, ap, ap₂, _∙_}
 use mathlib.Core.List.{[], _∷_, _++_}
 use Prim.Native.Nat.{ℕ}
 use native.Mathlib.Omega.{arith}
 use borrow.Author.Needs.{needs}
 use Rattle.planner_text.specs.Text.{blank, lineEnd, stepsText, pointText}
+use Rattle.file_records.proofs.View.{point-at}
 use Rattle.planner_text.proofs.Put.{put-as, put-both}
 use Rattle.planner_text.proofs.put_point.Statement.{statement}
 use Rattle.planner_text.proofs.put_point.Tie as tie
@@ -41,13 +42,14 @@ same-length c = search needs
 returns : tie.Need-returns
 unfolding pointText
 returns c =
+    let a = c .before .before .before .before .before .before .before .before .before .before .before .before .before .before .before .before .before .before .before .before .args in
     let x = c .before .before .before .before .before .before .before .before .before .before .before .before .before .before .before .before .before .place-at .ensures in
     let sx = c .before .before .before .before .before .before .before .before .before .before .before .before .before .before .before .put-steps .ensures in
     let bx = c .before .before .before .before .before .before .before .before .before .before .before .put-byte .ensures in
     let y = c .before .before .before .before .before .before .before .before .place-at2 .ensures in
     let sy = c .before .before .before .before .before .before .put-steps2 .ensures in
     let by = c .before .before .put-byte2 .ensures in (
-      put-as (ap₂ (λ (u v : ℕ). (stepsText u ++ (blank ∷ [])) ++ (stepsText v ++ (lineEnd ∷ []))) x y) (put-both (put-both (sx .0) bx) (put-both (sy .0) by)),
+      put-as (ap₂ (λ (u v : ℕ). (stepsText u ++ (blank ∷ [])) ++ (stepsText v ++ (lineEnd ∷ []))) x y ∙ ap pointText (sym (point-at (a .from) (a .output .now)))) (put-both (put-both (sx .0) bx) (put-both (sy .0) by)),
       omega (arith, sx .1, bx .ends, sy .1, by .ends),
     )
 

@@ -1,5 +1,4 @@
 -- `planner_text::put_word` meets its contract. The invariant: what is left of the word, put from here on, gives all of it. Assumes nothing.
-use mathlib.Core.Path.{_≡_}
 use Prim.Native.Nat.{_-_}
 use native.Mathlib.Omega.{arith}
 use lib.ListN.{length}
