@@ -2,7 +2,7 @@
 """Times the planner that is linked into the oracle beside the published one, as tables for docs/PERFORMANCE.md.
 
 usage: oracle/timing.py ORACLE TABLE ...       TABLE is goals, slow, growth, small, phases, walk, found or stack
-       oracle/timing.py --programs PLAN RUST   the programs as a person runs them, on the tiny and refused drawings
+       oracle/timing.py --programs PLAN RUST   the programs as a person runs them
        oracle/timing.py --write FOLDER         the drawings of all tables as files, for other planners
 
 ORACLE was built with --planner and --petgraph (and --phases, for the port's columns of phases and walk). Both planners
