@@ -1,57 +1,49 @@
 -- Laws of specs/Accepted.
-use mathlib.Core.Path.{_≡_, refl}
+use mathlib.Core.Path.{_≡_, refl, _∙_}
 use mathlib.Core.List.{List, [], _∷_}
-use mathlib.Core.Bool.{Bool, true, false, true≢false}
-use Prim.Native.Nat.{ℕ, suc, _≤_}
-use lib.ListN.{length, drop}
+use mathlib.Core.Bool.{Bool, true}
+use Prim.Native.Nat.{ℕ}
+use lib.ListN.{length}
 use borrow.Author.Tests.{ltb-false, leb-true, not-false}
-use Rattle.grid.specs.Grid.{readPlace}
 use Rattle.limits.specs.Limits.{mostBytes, mostLines, mostPoints, mostLinks}
-use Rattle.drawing_spec.specs.Bytes.{number}
+use Rattle.limits.specs.Limits.{refusedBytes, refusedCut, refusedKinds, refusedLengths, refusedSettings, refusedCounts, refusedCoordinates, refusedLinks}
 use Rattle.drawing_spec.specs.Drawing.{Drawing}
 use Rattle.lists.specs.Members.{All}
 use Rattle.drawing_spec.proofs.Same.{both}
-use Rattle.drawing_spec.specs.Refusal.{Condition, condition, accepted, verdict}
-use Rattle.drawing_spec.specs.Read.{placeAt, points, drawingOf, every, kindsFit, lengthsFit, settingsFit, countsFit, coordinatesFit, linksFit, recordsOf, isCut, readConditions}
-use Rattle.drawing_spec.specs.Accepted.{Counts, InLimits}
+use Rattle.drawing_spec.specs.Refusal.{accepted, verdict, until, holds}
+use Rattle.drawing_spec.proofs.Refusal.{fails, accepted-before}
+use Rattle.drawing_spec.proofs.Placed.{counts-placed, links-placed}
+use Rattle.drawing_spec.specs.Read.{sketchOf, drawingOf, every, kindsFit, lengthsFit, settingsFit, countsFit, coordinatesFit, linksFit, recordsOf, readConditions}
+use Rattle.drawing_spec.specs.Accepted.{Passed, Counts, InLimits}
 use Rattle.drawing_spec.proofs.OnGrid.{lines-on, links-on}
 
--- where the verdict is that a file is accepted, none of its conditions holds
-abbrev pub Fails : Condition → Type 0
-Fails (condition n t) = t ≡ false
+-- ---- where none of the conditions before check 8 holds, each check passes
 
-pub none-holds : (cs : List Condition) → verdict cs ≡ accepted → All Fails cs
-unfolding verdict
-none-holds [] e = tt
-none-holds (condition n true ∷ cs) e = absurd (true≢false (cc))
-none-holds (condition n false ∷ cs) e = (refl, none-holds cs e)
-
--- ---- each check passes
-
-pub record Fits (file : List ℕ) : Type 0 where
-  pub size : length file ≤ mostBytes
-  pub uncut : isCut file ≡ false
-  pub kinds : kindsFit (recordsOf file) ≡ true
-  pub lengths : lengthsFit (recordsOf file) ≡ true
-  pub settings : settingsFit (drawingOf (recordsOf file) .settings) ≡ true
-  pub counts : countsFit (drawingOf (recordsOf file)) ≡ true
-  pub coordinates : coordinatesFit (recordsOf file) ≡ true
-  pub links : linksFit (drawingOf (recordsOf file)) ≡ true
-
-pub accepted-fits : (file : List ℕ) → verdict (readConditions file) ≡ accepted → Fits file
-unfolding readConditions
-accepted-fits file e =
-    let c = none-holds (readConditions file) e in
+pub passes : (file : List ℕ) → verdict (until refusedLinks (readConditions file)) ≡ accepted → Passed file
+unfolding readConditions until holds
+passes file e =
+    let rs = recordsOf file in
+    let none = fails (until refusedLinks (readConditions file)) e in
     record {
-      size = ltb-false mostBytes (length file) (c .0);
-      uncut = c .1 .0;
-      kinds = not-false (kindsFit (recordsOf file)) (c .1 .1 .0);
-      lengths = not-false (lengthsFit (recordsOf file)) (c .1 .1 .1 .0);
-      settings = not-false (settingsFit (drawingOf (recordsOf file) .settings)) (c .1 .1 .1 .1 .0);
-      counts = not-false (countsFit (drawingOf (recordsOf file))) (c .1 .1 .1 .1 .1 .0);
-      coordinates = not-false (coordinatesFit (recordsOf file)) (c .1 .1 .1 .1 .1 .1 .0);
-      links = not-false (linksFit (drawingOf (recordsOf file))) (c .1 .1 .1 .1 .1 .1 .1 .0);
+      small = ltb-false mostBytes (length file) (none refusedBytes);
+      is-whole = none refusedCut;
+      in-order = not-false (kindsFit rs) (none refusedKinds);
+      long = not-false (lengthsFit rs) (none refusedLengths);
+      settings-fit = not-false (settingsFit (sketchOf rs .settings)) (none refusedSettings);
+      few = not-false (countsFit (sketchOf rs)) (none refusedCounts);
+      on-grid = not-false (coordinatesFit (sketchOf rs)) (none refusedCoordinates);
     }
+
+-- ---- a file that is accepted passes them, and check 8
+
+pub accepted-passes : (file : List ℕ) → verdict (readConditions file) ≡ accepted → Passed file
+accepted-passes file e = passes file (accepted-before refusedLinks (readConditions file) e)
+
+pub accepted-links : (file : List ℕ) → verdict (readConditions file) ≡ accepted → linksFit (drawingOf (recordsOf file)) ≡ true
+unfolding readConditions holds
+accepted-links file e = links-placed (recordsOf file) ∙ not-false (linksFit (sketchOf (recordsOf file))) (fails (readConditions file) e refusedLinks)
+
+-- ---- the drawing keeps check 6, and its points are on the grid
 
 pub counts-fit : (d : Drawing) → countsFit d ≡ true → Counts d
 unfolding countsFit
@@ -60,20 +52,13 @@ counts-fit d e =
     let b = both _ _ (a .0) in
     record { lines = leb-true (length (d .lines)) mostLines (b .0); points = leb-true _ mostPoints (b .1); links = leb-true (length (d .links)) mostLinks (a .1) }
 
-pub in-limits : (file : List ℕ) → Fits file → InLimits (drawingOf (recordsOf file))
-in-limits file f = record {
-  counts = counts-fit (drawingOf (recordsOf file)) (f .counts);
-  lines-on = lines-on (recordsOf file);
-  links-on = links-on (recordsOf file);
-}
+pub passed-counts : (file : List ℕ) → Passed file → Counts (drawingOf (recordsOf file))
+passed-counts file p = counts-fit (drawingOf (recordsOf file)) (counts-placed (recordsOf file) ∙ p .few)
 
--- ---- check 7
+pub in-limits : (file : List ℕ) → Passed file → InLimits (drawingOf (recordsOf file))
+in-limits file p = record { counts = passed-counts file p; lines-on = lines-on (recordsOf file) (p .on-grid); links-on = links-on (recordsOf file) (p .on-grid) }
 
 pub every-all : {A : Type 0} (f : A → Bool) (xs : List A) → every f xs ≡ true → All (λ (x : A). f x ≡ true) xs
 unfolding every
 every-all f [] e = tt
 every-all f (x ∷ xs) e = let t = both (f x) (every f xs) e in (t .0, every-all f xs (t .1))
-
-pub points-one : (n : ℕ) (bs : List ℕ) → points (suc n) bs ≡ record { x = placeAt (readPlace (number 8 bs)); y = placeAt (readPlace (number 8 (drop 8 bs))) } ∷ points n (drop 16 bs)
-unfolding points
-points-one n bs = refl

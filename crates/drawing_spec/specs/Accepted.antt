@@ -1,21 +1,34 @@
--- What is known of the drawing of a file that meets none of conditions 1 to 8, and asked of a drawing that has no file.
+-- What is known of a file that none of checks 1 to 7 refuses, and of its drawing; and what is asked of a drawing that has no file.
+use mathlib.Core.Path.{_≡_}
 use mathlib.Core.List.{List, map}
-use Prim.Native.Nat.{_≤_}
+use mathlib.Core.Bool.{true, false}
+use Prim.Native.Nat.{ℕ, _≤_}
 use lib.ListN.{length}
-use Rattle.limits.specs.Limits.{mostLines, mostPoints, mostLinks}
+use Rattle.limits.specs.Limits.{mostBytes, mostLines, mostPoints, mostLinks}
 use Rattle.drawing_spec.specs.Drawing.{Point, Drawing}
 use Rattle.lists.specs.Members.{All}
 use Rattle.drawing_spec.specs.OnGrid.{OnGrid, AtEnds}
-use Rattle.drawing_spec.specs.Read.{points, total}
+use Rattle.drawing_spec.specs.Read.{total, recordsOf, isCut, sketchOf, kindsFit, lengthsFit, settingsFit, countsFit, coordinatesFit}
 
--- ---- check 6
+-- ---- a file: one field for each of the checks before check 8
+
+pub record Passed (file : List ℕ) : Type 0 where
+  pub small : length file ≤ mostBytes
+  pub is-whole : isCut file ≡ false
+  pub in-order : kindsFit (recordsOf file) ≡ true
+  pub long : lengthsFit (recordsOf file) ≡ true
+  pub settings-fit : settingsFit (sketchOf (recordsOf file) .settings) ≡ true
+  pub few : countsFit (sketchOf (recordsOf file)) ≡ true
+  pub on-grid : coordinatesFit (sketchOf (recordsOf file)) ≡ true
+
+-- ---- a drawing: check 6
 
 pub record Counts (d : Drawing) : Type 0 where
   pub lines : length (d .lines) ≤ mostLines
   pub points : total (map (λ (l : List Point). length l) (d .lines)) ≤ mostPoints
   pub links : length (d .links) ≤ mostLinks
 
--- check 6, and every point on the grid
+-- check 6, and every point on the grid, as check 7 has it
 pub record InLimits (d : Drawing) : Type 0 where
   pub counts : Counts d
   pub lines-on : All (All OnGrid) (d .lines)

@@ -11,7 +11,8 @@ use borrow.Author.Tests.{leb-true}
 use Rattle.limits.specs.Limits.{mostLines, mostPoints, mostLinks}
 use Rattle.drawing_spec.specs.Drawing as drawn
 use Rattle.drawing_spec.specs.Drawing.{linePoints}
-use Rattle.drawing_spec.specs.Read.{Record, pointsOfLine, linkOf, bodies, total, kindsFit, lengthsFit, settingsFit, countsFit, linksFit, recordsOf, isCut, drawingOf}
+use Rattle.drawing_spec.specs.Read.{Record, pointsOfLine, linkOf, bodies, total, kindsFit, lengthsFit, settingsFit, countsFit, linksFit, recordsOf, isCut, sketchOf, drawingOf}
+use Rattle.drawing_spec.proofs.Placed.{lines-are, links-are, settings-are, counts-placed, links-placed}
 use Rattle.file_records.specs.Body.{settingsFrom, edgeFrom, recordRead}
 use Rattle.file_records.specs.declared.Settings.{Settings}
 use Rattle.file_records.specs.declared.MstEdge.{MstEdge}
@@ -30,8 +31,9 @@ use Rattle.file_checks.proofs.CoordinatesLaws.{and-first, and-second}
 use Rattle.file_drawing.specs.Lines.{Arrays, arrays, AtLines, LinesRead, linesFrom}
 use Rattle.file_drawing.specs.Links.{AtLinks, linksFrom}
 use Rattle.file_drawing.specs.Fit.{linksFitIn}
-use Rattle.file_drawing.proofs.Fit.{links-are}
-use Rattle.file.specs.Reading.{Passed, noDrawing}
+use Rattle.file_drawing.proofs.Fit.{links-held}
+use Rattle.drawing_spec.specs.Accepted.{Passed}
+use Rattle.file.specs.Reading.{noDrawing}
 
 -- ---- what each test tells
 
@@ -42,11 +44,11 @@ module _ (rs : List Record) (t : Tally) (e : t ≡ tallied rs noTally) where
   pub lengths-tell : (v : Bool) → t .lengths ≡ v → lengthsFit rs ≡ v
   lengths-tell v i = sym (ap (λ (t : Tally). t .lengths) e ∙ lengths rs noTally) ∙ i
 
-  pub counts-tell : (b v : Bool) → b ≡ (leb (t .lines) mostLines && leb (t .points) mostPoints && leb (t .links) mostLinks) → b ≡ v → countsFit (drawingOf rs) ≡ v
-  counts-tell b v h i = sym (h ∙ counts-tally rs t e) ∙ i
+  pub counts-tell : (b v : Bool) → b ≡ (leb (t .lines) mostLines && leb (t .points) mostPoints && leb (t .links) mostLinks) → b ≡ v → countsFit (sketchOf rs) ≡ v
+  counts-tell b v h i = sym (h ∙ counts-tally rs t e ∙ counts-placed rs) ∙ i
 
 pub settings-tell : (file : List ℕ) → isCut file ≡ false → kindsFit (recordsOf file) ≡ true → lengthsFit (recordsOf file) ≡ true
-    → (s : Settings) (b v : Bool) → s ≡ settingsIn (recordRead file 0 .body) → b ≡ settingsFit (settingsOf s) → b ≡ v → settingsFit (drawingOf (recordsOf file) .settings) ≡ v
+    → (s : Settings) (b v : Bool) → s ≡ settingsIn (recordRead file 0 .body) → b ≡ settingsFit (settingsOf s) → b ≡ v → settingsFit (sketchOf (recordsOf file) .settings) ≡ v
 settings-tell file w k l s b v e h i = sym (h ∙ ap (λ (s : Settings). settingsFit (settingsOf s)) (e ∙ settings-read file w k l)) ∙ i
 
 -- ---- the drawing of a file that checks 1 to 7 pass
@@ -80,16 +82,16 @@ none = arrays (replicate (mostLines + 1) 0) (replicate mostPoints 0) (replicate 
 
 module _ (file : List ℕ) (p : Passed file) (t : Tally) (e : t ≡ tallied (recordsOf file) noTally) where
   pub lines-ready : AtLines file 16 (t .lines)
-  unfolding drawingOf
   lines-ready =
-      let f = few-of (drawingOf (recordsOf file)) (p .few) in
+      let rs = recordsOf file in
+      let f = few-of (drawingOf rs) (counts-placed rs ∙ p .few) in
       let n = lines-tally (recordsOf file) t e in
-      at-lines file (p .is-whole) (p .in-order) (p .long) (t .lines) (sym (n ∙ length-map (bodies 2 (recordsOf file)) pointsOfLine)) (rw n (f .0)) (rw (points-in (bodies 2 (recordsOf file))) at (f .1))
+      at-lines file (p .is-whole) (p .in-order) (p .long) (t .lines) (sym (n ∙ ap length (lines-are rs) ∙ length-map (bodies 2 rs) pointsOfLine)) (rw n (f .0)) (rw (lines-are rs, points-in (bodies 2 rs)) at (f .1))
 
   pub links-ready : (a b : Arrays) (end : ℕ) → LinesRead file 16 a b end → AtLinks file end (t .links)
-  unfolding drawingOf
   links-ready a c end l =
-      let f = few-of (drawingOf (recordsOf file)) (p .few) in
+      let rs = recordsOf file in
+      let f = few-of (drawingOf rs) (counts-placed rs ∙ p .few) in
       let n = links-tally (recordsOf file) t e in
       let b = bodies-behind file (p .is-whole) (p .in-order) (p .long) 3 (λ q. omega arith) in
       record {
@@ -97,27 +99,27 @@ module _ (file : List ℕ) (p : Passed file) (t : Tally) (e : t ≡ tallied (rec
         is-whole = l .end-whole;
         only-links = l .links-left;
         lengths-fit = l .end-lengths;
-        counted = ap length (l .same-links ∙ sym b) ∙ sym (n ∙ length-map (bodies 3 (recordsOf file)) linkOf);
+        counted = ap length (l .same-links ∙ sym b) ∙ sym (n ∙ ap length (links-are rs) ∙ length-map (bodies 3 rs) linkOf);
         few-links = rw n (f .2);
       }
 
   pub drawing-made : (s : Settings) (r : Arrays) (end : ℕ) (edges : List MstEdge) → s ≡ settingsIn (recordRead file 0 .body) → LinesRead file 16 none r end → edges ≡ sets (replicate mostLinks noLink) 0 (linksFrom file end)
       → _≡_ {A = Drawing} (record { settings = s; lines = t .lines; starts = r .starts; points = t .points; xs = r .xs; ys = r .ys; «link_count» = t .links; links = edges }) (drawingHeld (drawingOf (recordsOf file)))
-  unfolding drawingHeld drawingOf
+  unfolding drawingHeld
   drawing-made s r end edges i l k =
       let rs = recordsOf file in
       let d = drawingOf rs in
-      let f = few-of d (p .few) in
+      let f = few-of d (counts-placed rs ∙ p .few) in
       let w = p .is-whole in
-      let lines-are : linesFrom file 16 ≡ map pointsOfLine (bodies 2 rs) = ap (map pointsOfLine) (sym (bodies-behind file w (p .in-order) (p .long) 2 (λ q. omega arith))) in
-      let links-are : linksFrom file end ≡ map edgeFrom (map linkOf (bodies 3 rs)) = ap (λ (bs : List (List ℕ)). map edgeFrom (map linkOf bs)) (l .same-links ∙ sym (bodies-behind file w (p .in-order) (p .long) 3 (λ q. omega arith))) in
-      let few-e : length (map edgeFrom (map linkOf (bodies 3 rs))) ≤ mostLinks = rw (length-map (map linkOf (bodies 3 rs)) edgeFrom) (f .2) in
+      let lines-as : linesFrom file 16 ≡ d .lines = ap (map pointsOfLine) (sym (bodies-behind file w (p .in-order) (p .long) 2 (λ q. omega arith))) ∙ sym (lines-are rs) in
+      let links-as : linksFrom file end ≡ map edgeFrom (d .links) = ap (λ (bs : List (List ℕ)). map edgeFrom (map linkOf bs)) (l .same-links ∙ sym (bodies-behind file w (p .in-order) (p .long) 3 (λ q. omega arith))) ∙ sym (ap (map edgeFrom) (links-are rs)) in
+      let few-e : length (map edgeFrom (d .links)) ≤ mostLinks = rw (length-map (d .links) edgeFrom) (f .2) in
       same-drawing s (settingsFrom (d .settings)) (t .lines) (length (d .lines)) (t .points) (length (linePoints (d .lines))) (t .links) (length (d .links)) (r .starts) (padded (mostLines + 1) 0 (0 ∷ endsFrom 0 (d .lines))) (r .xs) (padded mostPoints 0 (xsOf (linePoints (d .lines)))) (r .ys) (padded mostPoints 0 (ysOf (linePoints (d .lines)))) edges (padded mostLinks noLink (map edgeFrom (d .links)))
-      (i ∙ settings-read file w (p .in-order) (p .long)) (lines-tally rs t e) (points-tally rs t e ∙ sym (length-line-points (d .lines))) (links-tally rs t e)
-      (starts-as (linesFrom file 16) (d .lines) (r .starts) (l .starts-are) lines-are (f .0))
-      (places-as (λ (p : drawn.Point). p .x) (linesFrom file 16) (d .lines) (r .xs) (l .xs-are) lines-are (f .1))
-      (places-as (λ (p : drawn.Point). p .y) (linesFrom file 16) (d .lines) (r .ys) (l .ys-are) lines-are (f .1))
-      (filled-as mostLinks noLink edges (linksFrom file end) (map edgeFrom (d .links)) k links-are few-e)
+      (i ∙ settings-read file w (p .in-order) (p .long) ∙ sym (ap settingsFrom (settings-are rs))) (lines-tally rs t e) (points-tally rs t e ∙ sym (length-line-points (d .lines))) (links-tally rs t e)
+      (starts-as (linesFrom file 16) (d .lines) (r .starts) (l .starts-are) lines-as (f .0))
+      (places-as (λ (p : drawn.Point). p .x) (linesFrom file 16) (d .lines) (r .xs) (l .xs-are) lines-as (f .1))
+      (places-as (λ (p : drawn.Point). p .y) (linesFrom file 16) (d .lines) (r .ys) (l .ys-are) lines-as (f .1))
+      (filled-as mostLinks noLink edges (linksFrom file end) (map edgeFrom (d .links)) k links-as few-e)
 
 -- ---- check 8 on it
 
@@ -125,14 +127,14 @@ module _ (file : List ℕ) (p : Passed file) (d : Drawing) (e : d ≡ drawingHel
   pub drawing-few : (d .lines ≤ mostLines) × (d .«link_count» ≤ mostLinks)
   unfolding drawingHeld
   drawing-few =
-      let f = few-of (drawingOf (recordsOf file)) (p .few) in
+      let f = few-of (drawingOf (recordsOf file)) (counts-placed (recordsOf file) ∙ p .few) in
       (rw (ap (λ (d : Drawing). d .lines) e) (f .0), rw (ap (λ (d : Drawing). d .«link_count») e) (f .2))
 
-  pub links-tell : (b v : Bool) → b ≡ linksFitIn (d .starts) (d .lines) (d .links) (d .«link_count») 0 → b ≡ v → linksFit (drawingOf (recordsOf file)) ≡ v
+  pub links-tell : (b v : Bool) → b ≡ linksFitIn (d .starts) (d .lines) (d .links) (d .«link_count») 0 → b ≡ v → linksFit (sketchOf (recordsOf file)) ≡ v
   unfolding drawingHeld
   links-tell b v h i =
       let a = drawingOf (recordsOf file) in
-      let f = few-of a (p .few) in
+      let f = few-of a (counts-placed (recordsOf file) ∙ p .few) in
       let m = length-ends 0 (a .lines) in
       let f0 = f .0 in
       let few-e : length (map edgeFrom (a .links)) ≤ mostLinks = rw (length-map (a .links) edgeFrom) (f .2) in
@@ -141,7 +143,8 @@ module _ (file : List ℕ) (p : Passed file) (d : Drawing) (e : d ≡ drawingHel
       ∙ ap (λ (d : Drawing). linksFitIn (d .starts) (d .lines) (d .links) (d .«link_count») 0) e
       ∙ ap (λ (s : List ℕ). linksFitIn s (length (a .lines)) (padded mostLinks noLink (map edgeFrom (a .links))) (length (a .links)) 0) (sym (sets-padded (mostLines + 1) 0 (0 ∷ endsFrom 0 (a .lines)) (omega arith)))
       ∙ ap (λ (l : List MstEdge). linksFitIn (sets (replicate (mostLines + 1) 0) 1 (endsFrom 0 (a .lines))) (length (a .lines)) l (length (a .links)) 0) (sym (sets-padded mostLinks noLink (map edgeFrom (a .links)) few-e))
-      ∙ links-are a (f .0) (f .2))
+      ∙ links-held a (f .0) (f .2)
+      ∙ links-placed (recordsOf file))
       ∙ i
 
 -- ---- the drawing of a refused file

@@ -1,13 +1,10 @@
 -- What the reader answers to a file: document 01's verdict, and the drawing in flat arrays.
-use Prim.Native.Nat.{ℕ, _≤_}
-use mathlib.Core.Path.{_≡_}
+use Prim.Native.Nat.{ℕ}
 use mathlib.Core.List.{List, []}
-use mathlib.Core.Bool.{true, false}
-use lib.ListN.{length, take}
-use Rattle.limits.specs.Limits.{mostBytes}
+use Rattle.limits.specs.Limits.{refusedLinks}
 use Rattle.drawing_spec.specs.Drawing as drawn
 use Rattle.drawing_spec.specs.Refusal as refusal
-use Rattle.drawing_spec.specs.Read.{kindsFit, lengthsFit, settingsFit, countsFit, coordinatesFit, recordsOf, isCut, drawingOf, readConditions}
+use Rattle.drawing_spec.specs.Read.{recordsOf, drawingOf, readConditions}
 use Rattle.file.specs.declared.Verdict.{Verdict}
 use Rattle.file.specs.declared.Verdict.the-variants.{Refused, Accepted}
 use Rattle.file.specs.declared.Reading.{Reading}
@@ -36,18 +33,10 @@ readingOf file =
 abbrev pub refusedAs : ℕ → Reading
 refusedAs n = record { verdict = Refused n; drawing = drawingHeld noDrawing }
 
--- ---- the first of checks 1 to 7
+-- ---- the first of the checks before check 8, which is made on the drawing's arrays
 
-unfoldable pub firstSeven : List ℕ → ℕ
-firstSeven file = refusal.refusalOf (refusal.verdict (take 7 (readConditions file)))
+abbrev pub early : List ℕ → List refusal.Condition
+early file = refusal.until refusedLinks (readConditions file)
 
--- ---- a file that none of them refuses
-
-pub record Passed (file : List ℕ) : Type 0 where
-  pub small : length file ≤ mostBytes
-  pub is-whole : isCut file ≡ false
-  pub in-order : kindsFit (recordsOf file) ≡ true
-  pub long : lengthsFit (recordsOf file) ≡ true
-  pub settings-fit : settingsFit (drawingOf (recordsOf file) .settings) ≡ true
-  pub few : countsFit (drawingOf (recordsOf file)) ≡ true
-  pub on-grid : coordinatesFit (recordsOf file) ≡ true
+unfoldable pub beforeLinks : List ℕ → ℕ
+beforeLinks file = refusal.refusalOf (refusal.verdict (early file))

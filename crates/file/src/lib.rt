@@ -4,7 +4,8 @@
 // in `file_drawing`. This crate has the checks in their order and what the reader answers.
 ghost use mathlib.Core.Path.{_≡_};
 ghost use Rattle.drawing_spec.specs.Read.{recordsOf, drawingOf};
-ghost use Rattle.file.specs.Reading.{firstSeven, Passed, noDrawing, refusedAs, readingOf};
+ghost use Rattle.drawing_spec.specs.Accepted.{Passed};
+ghost use Rattle.file.specs.Reading.{beforeLinks, noDrawing, refusedAs, readingOf};
 ghost use Rattle.file_drawing.specs.Held.{drawingHeld};
 use file_checks::coordinates;
 use file_checks::heads;
@@ -37,9 +38,9 @@ pub struct Reading {
     pub drawing: Drawing,
 }
 
-// The first of checks 1 to 7 that holds, and 0 where none does. Each covers the whole file.
+// The first of the checks before check 8 that holds, and 0 where none does. Each covers the whole file.
 fn first_refusal(file: &[u8]) -> u8
-    ensures { λ r. ⌜ r ≡ firstSeven (now (file .entry)) ⌝ }
+    ensures { λ r. ⌜ r ≡ beforeLinks (now (file .entry)) ⌝ }
 {
     if MOST_BYTES < file.len() {
         return REFUSED_BYTES;
@@ -100,7 +101,7 @@ fn refused(number: u8) -> Reading
     }
 }
 
-// The drawing of a file that none of checks 1 to 7 refuses: the settings' record has 16 bytes, and
+// The drawing of a file that none of the checks before check 8 refuses: the settings' record has 16 bytes, and
 // the lines start behind it.
 fn drawing_of(file: &[u8]) -> Drawing
     requires { ⌜ Passed (now file) ⌝ }

@@ -1,22 +1,24 @@
 -- Laws of specs/Coordinates.
-use Prim.Native.Nat.{ℕ, suc, _+_, _-_, _/_, _≤_, _<_}
+use Prim.Native.Nat.{ℕ, zero, suc, _+_, _-_, _*_, _/_, _%_, _≤_, _<_}
 use native.Mathlib.Omega.{arith}
 use mathlib.Core.Path.{_≡_, refl, sym, ap, _∙_}
-use mathlib.Core.List.{List, _∷_}
+use mathlib.Core.List.{List, [], _∷_, map}
 use mathlib.Core.Bool.{Bool, true, false, _&&_}
 use lib.ListN.{length, drop}
 use lib.Seq.{drop-drop}
-use borrow.Author.Tests.{ne-eqb}
-use Rattle.grid.specs.Grid.{readPlace}
+use lib.Dec.{eqb}
+use borrow.Author.Tests.{ne-eqb, eqb-true}
+use Rattle.grid.specs.Grid.{readPlace, onGrid}
 use Rattle.drawing_spec.specs.Bytes.{number}
-use Rattle.drawing_spec.specs.Read.{Record, onGrid, words, bodies, every, lengthsFit, coordinatesFit, recordsOf, isCut}
+use Rattle.drawing_spec.specs.Drawing.{PointOf, LinkOf, Pattern}
+use Rattle.drawing_spec.specs.Read.{Record, bodies, every, lengthsFit, coordinatesFit, pointFits, spots, spotsOfLine, sketchedLink, sketchOf, recordsOf, isCut}
 use Rattle.file_records.specs.Walk.{sizeAt, kindAt, bodyAt, nextAt, recordsFrom, cutFrom}
 use Rattle.file_records.proofs.Walk.{recordAt, none-left, room, still-whole, record-here, body-long}
 use Rattle.file_reader.specs.Part.{bodyPart}
 use Rattle.file_reader.proofs.Part.{part-is}
 use Rattle.file_checks.specs.Tally.{lengthFits}
 use Rattle.file_checks.proofs.TallyLaws.{and-assoc, Kind, first, second, third, none, kind-of, bodies-here, bodies-other, lengths-cons}
-use Rattle.file_checks.specs.Coordinates.{bodyOn, wordsOn}
+use Rattle.file_checks.specs.Coordinates.{bodyOn, words, wordsOn, coordinatesIn}
 
 -- ---- what the code computes
 
@@ -42,8 +44,8 @@ and-swap true a b = refl
 and-swap false true b = refl
 and-swap false false b = refl
 
-coordinates-cons : (r : Record) (rs : List Record) → coordinatesFit (r ∷ rs) ≡ bodyOn (r .kind) (r .body) && coordinatesFit rs
-unfolding coordinatesFit every wordsOn
+coordinates-cons : (r : Record) (rs : List Record) → coordinatesIn (r ∷ rs) ≡ bodyOn (r .kind) (r .body) && coordinatesIn rs
+unfolding coordinatesIn every wordsOn
 coordinates-cons r rs = go (kind-of (r .kind))
   where
     two : List Record → Bool
@@ -52,7 +54,7 @@ coordinates-cons r rs = go (kind-of (r .kind))
     three : List Record → Bool
     three rs = every (λ (b : List ℕ). every (λ (w : ℕ). onGrid (readPlace w)) (words 4 (drop 8 b))) (bodies 3 rs)
 
-    go : Kind (r .kind) → coordinatesFit (r ∷ rs) ≡ bodyOn (r .kind) (r .body) && coordinatesFit rs
+    go : Kind (r .kind) → coordinatesIn (r ∷ rs) ≡ bodyOn (r .kind) (r .body) && coordinatesIn rs
     go (first e) = rw (bodies-other 2 r rs (λ q. omega arith), bodies-other 3 r rs (λ q. omega arith), e)
     go (second e) = rw (bodies-here 2 r rs e, bodies-other 3 r rs (λ q. omega arith), e) (and-assoc (wordsOn (r .body) 0 (length (r .body) / 8)) (two rs) (three rs))
     go (third e) = rw (bodies-other 2 r rs (λ q. omega arith), bodies-here 3 r rs e, e) (and-swap (wordsOn (r .body) 8 4) (two rs) (three rs))
@@ -79,8 +81,57 @@ module _ (file : List ℕ) (at : ℕ) (h : at < length file) (w : cutFrom file a
   pub lengths-after : lengthsFit (recordsFrom file (nextAt file at)) ≡ true
   lengths-after = and-second (lengthFits (kindAt file at) (length (bodyAt file at))) (lengthsFit (recordsFrom file (nextAt file at))) both
 
-  on-step : coordinatesFit (recordsFrom file at) ≡ bodyOn (kindAt file at) (bodyAt file at) && coordinatesFit (recordsFrom file (nextAt file at))
-  on-step = ap coordinatesFit (record-here file at h w) ∙ coordinates-cons (recordAt file at) (recordsFrom file (nextAt file at))
+  on-step : coordinatesIn (recordsFrom file at) ≡ bodyOn (kindAt file at) (bodyAt file at) && coordinatesIn (recordsFrom file (nextAt file at))
+  on-step = ap coordinatesIn (record-here file at h w) ∙ coordinates-cons (recordAt file at) (recordsFrom file (nextAt file at))
+
+-- ---- all records: it is check 7 of the sketch
+
+four : (a b c d : Bool) → (a && b) && (c && d) ≡ a && (b && (c && (d && true)))
+four true true true true = refl
+four true true true false = refl
+four true true false d = refl
+four true false c d = refl
+four false b c d = refl
+
+points-row : (n : ℕ) (bs : List ℕ) → every (λ (p : PointOf Pattern). pointFits p) (spots n bs) ≡ every (λ (w : ℕ). on w) (words (2 * n) bs)
+unfolding every spots words
+points-row zero bs = refl
+points-row (suc n) bs =
+    let e : 2 * suc n ≡ suc (suc (2 * n)) = omega arith in
+    and-assoc (on (number 8 bs)) (on (number 8 (drop 8 bs))) (every (λ (p : PointOf Pattern). pointFits p) (spots n (drop 16 bs)))
+    ∙ ap (λ (t : Bool). on (number 8 bs) && (on (number 8 (drop 8 bs)) && t)) (points-row n (drop 16 bs) ∙ ap (λ (l : List ℕ). every (λ (w : ℕ). on w) (words (2 * n) l)) (sym (drop-drop 8 8 bs)))
+    ∙ ap (λ (k : ℕ). every (λ (w : ℕ). on w) (words k bs)) (sym e)
+
+line-row : (b : List ℕ) → length b % 16 ≡ 0 → every (λ (p : PointOf Pattern). pointFits p) (spotsOfLine b) ≡ every (λ (w : ℕ). on w) (words (length b / 8) b)
+unfolding spotsOfLine
+line-row b h = let e : 2 * (length b / 16) ≡ length b / 8 = omega arith in points-row (length b / 16) b ∙ ap (λ (k : ℕ). every (λ (w : ℕ). on w) (words k b)) e
+
+link-row : (b : List ℕ) → pointFits (sketchedLink b .first .point) && pointFits (sketchedLink b .second .point) ≡ every (λ (w : ℕ). on w) (words 4 (drop 8 b))
+unfolding every words sketchedLink
+link-row b =
+    four (on (number 8 (drop 8 b))) (on (number 8 (drop 8 (drop 8 b)))) (on (number 8 (drop 24 b))) (on (number 8 (drop 8 (drop 24 b))))
+    ∙ ap (λ (l : List ℕ). on (number 8 (drop 8 b)) && (on (number 8 (drop 8 (drop 8 b))) && (on (number 8 l) && (on (number 8 (drop 8 l)) && true)))) (sym (drop-drop 8 16 b) ∙ ap (drop 8) (sym (drop-drop 8 8 b)))
+
+lines-row : (bs : List (List ℕ)) → every (λ (b : List ℕ). eqb (length b % 16) 0) bs ≡ true
+    → every (λ (l : List (PointOf Pattern)). every (λ (p : PointOf Pattern). pointFits p) l) (map spotsOfLine bs) ≡ every (λ (b : List ℕ). every (λ (w : ℕ). on w) (words (length b / 8) b)) bs
+unfolding every
+lines-row [] h = refl
+lines-row (b ∷ bs) h =
+    let here = and-first (eqb (length b % 16) 0) (every (λ (b : List ℕ). eqb (length b % 16) 0) bs) h in
+    let there = and-second (eqb (length b % 16) 0) (every (λ (b : List ℕ). eqb (length b % 16) 0) bs) h in
+    λ i. line-row b (eqb-true (length b % 16) 0 here) i && lines-row bs there i
+
+links-row : (bs : List (List ℕ))
+    → every (λ (l : LinkOf Pattern). pointFits (l .first .point) && pointFits (l .second .point)) (map sketchedLink bs) ≡ every (λ (b : List ℕ). every (λ (w : ℕ). on w) (words 4 (drop 8 b))) bs
+unfolding every
+links-row [] = refl
+links-row (b ∷ bs) = λ i. link-row b i && links-row bs i
+
+pub coordinates-are : (rs : List Record) → lengthsFit rs ≡ true → coordinatesFit (sketchOf rs) ≡ coordinatesIn rs
+unfolding coordinatesFit sketchOf coordinatesIn lengthsFit
+coordinates-are rs h =
+    let a = and-first _ _ h in
+    λ i. lines-row (bodies 2 rs) (and-second (every (λ (b : List ℕ). eqb (length b) 10) (bodies 1 rs)) (every (λ (b : List ℕ). eqb (length b % 16) 0) (bodies 2 rs)) a) i && links-row (bodies 3 rs) i
 
 -- ---- the loop over the records
 
@@ -88,14 +139,14 @@ pub record Checking (file : List ℕ) (at : ℕ) : Type 0 where
   pub inside : at ≤ length file
   pub is-whole : cutFrom file at ≡ false
   pub lengths-fit : lengthsFit (recordsFrom file at) ≡ true
-  pub same : coordinatesFit (recordsFrom file at) ≡ coordinatesFit (recordsOf file)
+  pub same : coordinatesIn (recordsFrom file at) ≡ coordinatesFit (sketchOf (recordsOf file))
 
 pub check-start : (file : List ℕ) → isCut file ≡ false → lengthsFit (recordsOf file) ≡ true → Checking file 0
-check-start file w l = record { inside = omega arith; is-whole = w; lengths-fit = l; same = refl }
+check-start file w l = record { inside = omega arith; is-whole = w; lengths-fit = l; same = sym (coordinates-are (recordsOf file) l) }
 
-pub check-end : (file : List ℕ) (at : ℕ) → Checking file at → length file ≤ at → true ≡ coordinatesFit (recordsOf file)
-unfolding coordinatesFit bodies every
-check-end file at c h = sym (ap coordinatesFit (none-left file at h)) ∙ c .same
+pub check-end : (file : List ℕ) (at : ℕ) → Checking file at → length file ≤ at → true ≡ coordinatesFit (sketchOf (recordsOf file))
+unfolding coordinatesIn bodies every
+check-end file at c h = sym (ap coordinatesIn (none-left file at h)) ∙ c .same
 
 module _ (file : List ℕ) (at k n : ℕ) (b : List ℕ) (c : Checking file at) (h : at < length file) (K : k ≡ kindAt file at) (N : n ≡ sizeAt file at) (E : b ≡ bodyPart file at) where
   body-is : b ≡ bodyAt file at
@@ -113,8 +164,8 @@ module _ (file : List ℕ) (at k n : ℕ) (b : List ℕ) (c : Checking file at) 
   step : at + (6 + n) ≡ nextAt file at
   step = ap (λ (m : ℕ). at + (6 + m)) N
 
-  pub check-off : bodyOn k b ≡ false → false ≡ coordinatesFit (recordsOf file)
-  check-off e = ap (λ (t : Bool). t && coordinatesFit (recordsFrom file (nextAt file at))) (sym (here false e)) ∙ sym (on-step file at h (c .is-whole) (c .lengths-fit)) ∙ c .same
+  pub check-off : bodyOn k b ≡ false → false ≡ coordinatesFit (sketchOf (recordsOf file))
+  check-off e = ap (λ (t : Bool). t && coordinatesIn (recordsFrom file (nextAt file at))) (sym (here false e)) ∙ sym (on-step file at h (c .is-whole) (c .lengths-fit)) ∙ c .same
 
   pub check-on : bodyOn k b ≡ true → Checking file (at + (6 + n))
   check-on e =
@@ -124,8 +175,8 @@ module _ (file : List ℕ) (at k n : ℕ) (b : List ℕ) (c : Checking file at) 
         is-whole = ap (cutFrom file) step ∙ still-whole file at h (c .is-whole);
         lengths-fit = ap (λ (a : ℕ). lengthsFit (recordsFrom file a)) step ∙ lengths-after file at h (c .is-whole) (c .lengths-fit);
         same =
-            ap (λ (a : ℕ). coordinatesFit (recordsFrom file a)) step
-            ∙ sym (on-step file at h (c .is-whole) (c .lengths-fit) ∙ ap (λ (t : Bool). t && coordinatesFit (recordsFrom file (nextAt file at))) (here true e))
+            ap (λ (a : ℕ). coordinatesIn (recordsFrom file a)) step
+            ∙ sym (on-step file at h (c .is-whole) (c .lengths-fit) ∙ ap (λ (t : Bool). t && coordinatesIn (recordsFrom file (nextAt file at))) (here true e))
             ∙ c .same;
       }
 

@@ -2,7 +2,8 @@
 use mathlib.Core.List.{List}
 use mathlib.Core.Bool.{Bool}
 use lib.Dec.{eqb}
+use Rattle.limits.specs.Limits.{kindLink}
 use Rattle.drawing_spec.specs.Read.{Record, every}
 
 abbrev pub allLinks : List Record → Bool
-allLinks rs = every (λ (l : Record). eqb (l .kind) 3) rs
+allLinks rs = every (λ (l : Record). eqb (l .kind) kindLink) rs

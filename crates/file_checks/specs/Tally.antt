@@ -4,6 +4,7 @@ use mathlib.Core.List.{List, [], _∷_, map}
 use mathlib.Core.Bool.{Bool, true, false, _&&_, cond}
 use lib.ListN.{length}
 use lib.Dec.{eqb}
+use Rattle.limits.specs.Limits.{kindSettings, kindLine, kindLink, settingsSize, pointSize, linkSize}
 use Rattle.drawing_spec.specs.Read.{Record, total}
 use Rattle.file_checks.specs.declared.Order.{Order}
 use Rattle.file_checks.specs.declared.Order.the-variants.{Settings, Lines, Links, Broken}
@@ -12,9 +13,9 @@ use Rattle.file_checks.specs.declared.Tally.{Tally}
 -- ---- what the code computes
 
 abbrev pub after : Order → ℕ → Order
-after Settings k = cond (eqb k 1) Lines Broken
-after Lines k = cond (eqb k 2) Lines (cond (eqb k 3) Links Broken)
-after Links k = cond (eqb k 3) Links Broken
+after Settings k = cond (eqb k kindSettings) Lines Broken
+after Lines k = cond (eqb k kindLine) Lines (cond (eqb k kindLink) Links Broken)
+after Links k = cond (eqb k kindLink) Links Broken
 after Broken k = Broken
 
 -- check 3 for each case of `Order`, at the end of the file
@@ -25,21 +26,21 @@ orderFits Links = true
 orderFits Broken = false
 
 abbrev pub lengthFits : ℕ → ℕ → Bool
-lengthFits k n = cond (eqb k 1) (eqb n 10) (cond (eqb k 2) (eqb (n % 16) 0) (cond (eqb k 3) (eqb n 40) true))
+lengthFits k n = cond (eqb k kindSettings) (eqb n settingsSize) (cond (eqb k kindLine) (eqb (n % pointSize) 0) (cond (eqb k kindLink) (eqb n linkSize) true))
 
 abbrev pub oneIf : ℕ → ℕ → ℕ
 oneIf k w = cond (eqb k w) 1 0
 
 abbrev pub pointsIf : ℕ → ℕ → ℕ
-pointsIf k n = cond (eqb k 2) (n / 16) 0
+pointsIf k n = cond (eqb k kindLine) (n / pointSize) 0
 
 unfoldable pub countedAs : Tally → ℕ → ℕ → Tally
 countedAs t k n = record {
   order = after (t .order) k;
   lengths = t .lengths && lengthFits k n;
-  lines = t .lines + oneIf k 2;
+  lines = t .lines + oneIf k kindLine;
   points = t .points + pointsIf k n;
-  links = t .links + oneIf k 3;
+  links = t .links + oneIf k kindLink;
 }
 
 unfoldable pub tallied : List Record → Tally → Tally
@@ -51,4 +52,4 @@ noTally = record { order = Settings; lengths = true; lines = 0; points = 0; link
 
 -- the points that a line's body has room for
 abbrev pub pointsIn : List (List ℕ) → ℕ
-pointsIn bs = total (map (λ (b : List ℕ). length b / 16) bs)
+pointsIn bs = total (map (λ (b : List ℕ). length b / pointSize) bs)

@@ -9,10 +9,11 @@ use lib.ListN.{length, drop, set}
 use lib.Seq.{sets, drop-drop}
 use borrow.Author.Tests.{le-leb}
 use Rattle.limits.specs.Limits.{mostPoints}
-use Rattle.grid.specs.Grid.{readPlace}
+use Rattle.grid.specs.Grid.{readPlace, placeAt}
 use Rattle.drawing_spec.specs.Bytes.{number}
 use Rattle.drawing_spec.specs.Drawing.{Point, linePoints}
-use Rattle.drawing_spec.specs.Read.{placeAt, points, pointsOfLine, bodies, total, linesThenLinks, lengthsFit}
+use Rattle.drawing_spec.specs.Read.{points, pointsOfLine, bodies, total, linesThenLinks, lengthsFit}
+use Rattle.drawing_spec.proofs.Placed.{point-is, points-one}
 use Rattle.file_records.specs.Walk.{sizeAt, kindAt, bodyAt, nextAt, recordsFrom, cutFrom}
 use Rattle.file_records.proofs.Walk.{recordAt, room, still-whole, record-here, body-long}
 use Rattle.file_records.specs.Body.{recordRead}
@@ -34,10 +35,9 @@ use Rattle.file_drawing.specs.Lines.{Arrays, arrays, AtLines, LinesRead,
 
 pub points-step : (file : List ℕ) (at n : ℕ) → 0 < n
     → points n (drop at file) ≡ record { x = placeAt (readPlace (number 8 (drop at file))); y = placeAt (readPlace (number 8 (drop (at + 8) file))) } ∷ points (n - 1) (drop (at + 16) file)
-unfolding points
 points-step file at n h =
     let e : n ≡ suc (n - 1) = omega arith in
-    ap (λ (k : ℕ). points k (drop at file)) e ∙ rw (drop-drop 8 at file, drop-drop 16 at file)
+    ap (λ (k : ℕ). points k (drop at file)) e ∙ points-one (n - 1) (drop at file) ∙ rw (point-is (drop at file), drop-drop 8 at file, drop-drop 16 at file)
 
 pub points-long : (n : ℕ) (bs : List ℕ) → length (points n bs) ≡ n
 unfolding points

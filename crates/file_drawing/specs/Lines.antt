@@ -5,7 +5,7 @@ use mathlib.Core.List.{List, map}
 use mathlib.Core.Bool.{true, false}
 use lib.ListN.{length}
 use lib.Seq.{sets}
-use Rattle.limits.specs.Limits.{mostLines, mostPoints}
+use Rattle.limits.specs.Limits.{kindLine, kindLink, mostLines, mostPoints}
 use Rattle.drawing_spec.specs.Drawing.{Point, linePoints}
 use Rattle.drawing_spec.specs.Read.{pointsOfLine, bodies, linesThenLinks, lengthsFit}
 use Rattle.file_records.specs.Walk.{recordsFrom, cutFrom}
@@ -16,7 +16,7 @@ use Rattle.file_drawing.specs.Stores.{xsOf, ysOf, endsFrom}
 -- ---- the lines from a place on
 
 abbrev pub linesFrom : List ℕ → ℕ → List (List Point)
-linesFrom file at = map pointsOfLine (bodies 2 (recordsFrom file at))
+linesFrom file at = map pointsOfLine (bodies kindLine (recordsFrom file at))
 
 -- lines and then links from a place on, so many lines and no more points than there is room for
 pub record AtLines (file : List ℕ) (at count : ℕ) : Type 0 where
@@ -24,9 +24,9 @@ pub record AtLines (file : List ℕ) (at count : ℕ) : Type 0 where
   pub is-whole : cutFrom file at ≡ false
   pub in-order : linesThenLinks (recordsFrom file at) ≡ true
   pub lengths-fit : lengthsFit (recordsFrom file at) ≡ true
-  pub counted : length (bodies 2 (recordsFrom file at)) ≡ count
+  pub counted : length (bodies kindLine (recordsFrom file at)) ≡ count
   pub few-lines : count ≤ mostLines
-  pub few-points : pointsIn (bodies 2 (recordsFrom file at)) ≤ mostPoints
+  pub few-points : pointsIn (bodies kindLine (recordsFrom file at)) ≤ mostPoints
 
 -- the arrays that lines are read into
 pub record Arrays : Type 0 where
@@ -46,4 +46,4 @@ pub record LinesRead (file : List ℕ) (start : ℕ) (a b : Arrays) (end : ℕ) 
   pub end-whole : cutFrom file end ≡ false
   pub links-left : allLinks (recordsFrom file end) ≡ true
   pub end-lengths : lengthsFit (recordsFrom file end) ≡ true
-  pub same-links : bodies 3 (recordsFrom file end) ≡ bodies 3 (recordsFrom file start)
+  pub same-links : bodies kindLink (recordsFrom file end) ≡ bodies kindLink (recordsFrom file start)

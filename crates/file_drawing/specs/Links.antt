@@ -4,7 +4,7 @@ use mathlib.Core.Path.{_≡_}
 use mathlib.Core.List.{List, map}
 use mathlib.Core.Bool.{true, false}
 use lib.ListN.{length}
-use Rattle.limits.specs.Limits.{mostLinks}
+use Rattle.limits.specs.Limits.{kindLink, mostLinks}
 use Rattle.drawing_spec.specs.Read.{linkOf, bodies, lengthsFit}
 use Rattle.file_records.specs.Walk.{recordsFrom, cutFrom}
 use Rattle.file_records.specs.Body.{edgeFrom}
@@ -12,7 +12,7 @@ use Rattle.file_records.specs.declared.MstEdge.{MstEdge}
 use Rattle.file_checks.specs.Kinds.{allLinks}
 
 abbrev pub linksFrom : List ℕ → ℕ → List MstEdge
-linksFrom file at = map edgeFrom (map linkOf (bodies 3 (recordsFrom file at)))
+linksFrom file at = map edgeFrom (map linkOf (bodies kindLink (recordsFrom file at)))
 
 -- links from a place on, so many of them
 pub record AtLinks (file : List ℕ) (at count : ℕ) : Type 0 where
@@ -20,5 +20,5 @@ pub record AtLinks (file : List ℕ) (at count : ℕ) : Type 0 where
   pub is-whole : cutFrom file at ≡ false
   pub only-links : allLinks (recordsFrom file at) ≡ true
   pub lengths-fit : lengthsFit (recordsFrom file at) ≡ true
-  pub counted : length (bodies 3 (recordsFrom file at)) ≡ count
+  pub counted : length (bodies kindLink (recordsFrom file at)) ≡ count
   pub few-links : count ≤ mostLinks

@@ -7,9 +7,9 @@ use lib.ListN.{drop}
 use lib.Dec.{eqb}
 use lib.Ieee.{Float}
 use borrow.Author.Tests.{eq-eqb, ne-eqb}
-use Rattle.grid.specs.Grid.{readPlace, coordinate}
+use Rattle.grid.specs.Grid.{readPlace, coordinate, placeAt}
 use Rattle.drawing_spec.specs.Bytes.{number}
-use Rattle.drawing_spec.specs.Read.{placeAt, point, settingsOf, linkOf}
+use Rattle.drawing_spec.specs.Read.{point, settingsOf, linkOf}
 use Rattle.file_records.specs.declared.Settings.{Settings}
 use Rattle.file_records.specs.declared.Point.{Point}
 use Rattle.file_records.specs.declared.MstEdge.{MstEdge}

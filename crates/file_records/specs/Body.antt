@@ -4,6 +4,7 @@ use mathlib.Core.List.{List}
 use mathlib.Core.Bool.{Bool, cond}
 use lib.ListN.{length}
 use lib.Dec.{eqb, leb}
+use Rattle.limits.specs.Limits.{kindSettings, kindLine, kindLink, settingsSize, pointSize, linkSize}
 use Rattle.grid.specs.Grid.{coordinate}
 use Rattle.drawing_spec.specs.Drawing as drawn
 use Rattle.drawing_spec.specs.Read.{settingsOf, linkOf}
@@ -35,9 +36,9 @@ edgeFrom l = record {
 -- document 01's values for each case of `Body`: of a record that stands whole in the file, by its kind and its length
 unfoldable pub bodyRead : List ℕ → ℕ → Body
 bodyRead file at =
-    cond (eqb (kindAt file at) 1) (cond (eqb (sizeAt file at) 10) (body.Settings (settingsFrom (settingsOf (bodyAt file at)))) body.Other)
-    (cond (eqb (kindAt file at) 2) (cond (eqb (sizeAt file at % 16) 0) (body.Line (sizeAt file at / 16)) body.Other)
-    (cond (eqb (kindAt file at) 3) (cond (eqb (sizeAt file at) 40) (body.Link (edgeFrom (linkOf (bodyAt file at)))) body.Other) body.Other))
+    cond (eqb (kindAt file at) kindSettings) (cond (eqb (sizeAt file at) settingsSize) (body.Settings (settingsFrom (settingsOf (bodyAt file at)))) body.Other)
+    (cond (eqb (kindAt file at) kindLine) (cond (eqb (sizeAt file at % pointSize) 0) (body.Line (sizeAt file at / pointSize)) body.Other)
+    (cond (eqb (kindAt file at) kindLink) (cond (eqb (sizeAt file at) linkSize) (body.Link (edgeFrom (linkOf (bodyAt file at)))) body.Other) body.Other))
 
 -- whether a record stands whole at a place
 abbrev pub wholeAt : List ℕ → ℕ → Bool

@@ -3,12 +3,18 @@
 ghost use mathlib.Core.Path.{_≡_};
 ghost use Prim.Native.Nat.{_+_, _≤_, _<_};
 ghost use lib.ListN.{length, drop};
-ghost use Rattle.grid.specs.Grid.{readPlace};
+ghost use Rattle.grid.specs.Grid.{readPlace, placeAt, onGrid};
 ghost use Rattle.drawing_spec.specs.Bytes.{number};
-ghost use Rattle.drawing_spec.specs.Read.{isCut, placeAt, onGrid, settingsOf, linkOf, point};
+ghost use Rattle.drawing_spec.specs.Read.{isCut, settingsOf, linkOf, point};
 ghost use Rattle.file_records.specs.Walk.{sizeAt, kindAt, nextAt};
 ghost use Rattle.file_records.specs.Body.{settingsFrom, pointFrom, edgeFrom, wholeAt, bodyRead, recordRead};
 use grid::Place;
+use limits::KIND_LINE;
+use limits::KIND_LINK;
+use limits::KIND_SETTINGS;
+use limits::LINK_SIZE;
+use limits::POINT_SIZE;
+use limits::SETTINGS_SIZE;
 
 // A point of a link: the source's type.
 pub struct Point {
@@ -124,15 +130,12 @@ pub fn is_cut(file: &[u8]) -> bool
     false
 }
 
-// The place that the coordinate at `at` stands for, and 0 where it is off the grid; whether it is on it.
+// The place that the coordinate at `at` stands for, and nowhere where it is off the grid; whether it is on it.
 pub fn place_at(file: &[u8], at: usize) -> u32
     requires { ⌜ at + 8 ≤ length (now file) ⌝ }
     ensures { λ r. ⌜ r ≡ placeAt (readPlace (number 8 (drop at (now (file .entry))))) ⌝ }
 {
-    match grid::read_place(number8(file, at)) {
-        Place::On(place) => place,
-        Place::Off => 0,
-    }
+    grid::place_number(grid::read_place(number8(file, at)))
 }
 
 pub fn on_grid(file: &[u8], at: usize) -> bool
@@ -216,20 +219,20 @@ fn body_at(file: &[u8], at: usize) -> Body
     let kind = kind_at(file, at);
     let size = size_at(file, at);
     let start = at + 6;
-    if kind == 1 {
-        if size == 10 {
+    if kind == KIND_SETTINGS {
+        if size == SETTINGS_SIZE {
             return Body::Settings(settings_at(file, start));
         }
         return Body::Other;
     }
-    if kind == 2 {
-        if size % 16 == 0 {
-            return Body::Line(size / 16);
+    if kind == KIND_LINE {
+        if size % POINT_SIZE == 0 {
+            return Body::Line(size / POINT_SIZE);
         }
         return Body::Other;
     }
-    if kind == 3 {
-        if size == 40 {
+    if kind == KIND_LINK {
+        if size == LINK_SIZE {
             return Body::Link(edge_at(file, start));
         }
         return Body::Other;

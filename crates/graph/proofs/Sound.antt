@@ -9,7 +9,7 @@ use Rattle.drawing_spec.specs.OnGrid.{OnGrid, AtEnds}
 use Rattle.drawing_spec.proofs.OnGrid.{lines-on, links-on}
 use Rattle.drawing_spec.specs.Read.{linksFit, recordsOf, drawingOf}
 use Rattle.drawing_spec.specs.Accepted.{Counts}
-use Rattle.drawing_spec.proofs.Accepted.{counts-fit}
+use Rattle.drawing_spec.proofs.Accepted.{passed-counts}
 use Rattle.file.specs.declared.Verdict.the-variants.{Accepted}
 use Rattle.file_drawing.specs.Held.{drawingHeld}
 use Rattle.file.specs.Reading.{readingOf}
@@ -25,8 +25,8 @@ accepted-sound file h =
     let is : drawingOf rs ≡ drawingFrom (readingOf file .drawing) = sym (accepted-drawing file h) in
     record {
       held = t .drawing-is ∙ ap drawingHeld is;
-      counts = subst Counts is (counts-fit (drawingOf rs) (t .passes .few));
+      counts = subst Counts is (passed-counts file (t .passes));
       links-fit = subst (λ (d : drawn.Drawing). linksFit d ≡ true) is (t .links-fit);
-      lines-on = subst (λ (d : drawn.Drawing). All (All OnGrid) (d .lines)) is (lines-on rs);
-      links-on = subst (λ (d : drawn.Drawing). All (AtEnds OnGrid) (d .links)) is (links-on rs);
+      lines-on = subst (λ (d : drawn.Drawing). All (All OnGrid) (d .lines)) is (lines-on rs (t .passes .on-grid));
+      links-on = subst (λ (d : drawn.Drawing). All (AtEnds OnGrid) (d .links)) is (links-on rs (t .passes .on-grid));
     }

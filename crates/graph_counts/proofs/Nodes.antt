@@ -11,7 +11,7 @@ use Rattle.lists.specs.Members.{In, All}
 use Rattle.lists.proofs.Members.{all-in, in-all, in-left, in-right}
 use Rattle.drawing_spec.specs.Read.{total, recordsOf, drawingOf, readConditions}
 use Rattle.drawing_spec.specs.Accepted.{Counts}
-use Rattle.drawing_spec.proofs.Accepted.{counts-fit, accepted-fits}
+use Rattle.drawing_spec.proofs.Accepted.{accepted-passes, passed-counts}
 use Rattle.drawing_spec.specs.Refusal.{accepted, verdict}
 use Rattle.drawing_spec.specs.OnGrid.{AtEnds}
 use Rattle.graph_spec.specs.Pieces.{usesOf, linkUses}
@@ -113,7 +113,7 @@ pub counted-few : (d : Drawing) → Counts d → Few d
 counted-few d c = record { nodes = omega (arith, nodes-few d, c .points, c .links); edges = omega (arith, edges-few d, c .points, c .links) }
 
 pub accepted-few : (file : List ℕ) → verdict (readConditions file) ≡ accepted → Few (drawingOf (recordsOf file))
-accepted-few file e = let d = drawingOf (recordsOf file) in counted-few d (counts-fit d (accepted-fits file e .counts))
+accepted-few file e = counted-few (drawingOf (recordsOf file)) (passed-counts file (accepted-passes file e))
 
 -- ---- worked example: a line of two points with a link between two places on it reaches both bounds
 

@@ -12,8 +12,7 @@ use Rattle.drawing_spec.specs.Drawing.{Point, End, Link}
 use Rattle.lists.specs.Members.{All}
 use Rattle.lists.proofs.Elements.{getD-same}
 use Rattle.drawing_spec.specs.OnGrid.{OnGrid, AtEnds}
-use Rattle.drawing_spec.specs.Read.{placeAt}
-use Rattle.grid.specs.Grid.{placeOf, coordinate}
+use Rattle.grid.specs.Grid.{placeOf, coordinate, placeAt}
 use Rattle.graph_segment_ends.specs.Ends.{filed}
 use Rattle.graph_segment_ends.proofs.Ends.{filedAll, noEnds}
 use Rattle.graph_segment_ends.proofs.Splits.{endsOf}

@@ -7,10 +7,9 @@ use lib.Dec.{T, ltb, lit≤}
 use lib.Ieee.{Float, nan, inf, fin, binary64, isNan, fits, toBits}
 use lib.Ieee.Exact.{HasValue}
 use lib.Ieee.Bits.{ofBits-toBits}
-use Rattle.grid.specs.Grid.{gridExponent, origin, gap, placeOf, readPlace, coordinate}
+use Rattle.grid.specs.Grid.{gridExponent, origin, gap, placeOf, readPlace, coordinate, placeAt}
 use Rattle.grid.proofs.Back.{read-is, coordinate-fits, coordinate-value}
 use Rattle.grid.specs.declared.Place.{Place}
-use Rattle.drawing_spec.specs.Read.{placeAt}
 use Rattle.graph_filing.specs.Floats.{IsCoordinate}
 
 -- its pattern is read as the place

@@ -3,13 +3,11 @@
 ghost use mathlib.Core.Path.{_≡_};
 ghost use Prim.Native.Nat.{_<_};
 ghost use Rattle.limits.specs.Limits.{mostSplits, mostLinks};
-ghost use Rattle.grid.specs.Grid.{placeOf};
-ghost use Rattle.drawing_spec.specs.Read.{placeAt};
+ghost use Rattle.grid.specs.Grid.{placeOf, placeAt};
 ghost use Rattle.graph_splits.specs.Next.{at};
 ghost use Rattle.graph_filing.specs.Floats.{IsCoordinate};
 ghost use Rattle.graph_filing.specs.Stored.{store, storeEnd, storeLink, placeIn, EndFits, LinkFits};
 use file_records::MstEdge;
-use grid::Place;
 use limits::MOST_LINES;
 use limits::MOST_POINTS;
 use limits::MOST_SPLITS;
@@ -20,10 +18,7 @@ pub fn place_of(x: f64) -> u32
     ensures { λ r. ⌜ r ≡ placeAt (placeOf x) ⌝ }
 {
     let bits = f64::to_bits(x);
-    match grid::read_place(bits) {
-        Place::On(place) => place,
-        Place::Off => 0,
-    }
+    grid::place_number(grid::read_place(bits))
 }
 
 // Files the end e at x, y under its segment.

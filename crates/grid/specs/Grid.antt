@@ -2,7 +2,7 @@
 -- A file holds a coordinate as the 64 bits of an f64. On a grid of 1 / 2 ^ g it is a whole number of steps of that size, from -reach to reach. Its place is its number of
 -- steps from -reach, which is never negative: the signed number of grid steps that document 01 speaks of is the place less the origin, the place of 0.
 use Prim.Native.Nat.{ℕ, _+_, _-_, _*_, _/_, _%_, _^_}
-use mathlib.Core.Bool.{Bool, not, _&&_, cond}
+use mathlib.Core.Bool.{Bool, true, false, not, _&&_, cond}
 use lib.Dec.{leb, ltb, eqb}
 use lib.Ieee.{Float, nan, inf, fin, up, down, binary64, round, ofBits, toBits}
 use Rattle.grid.specs.declared.Place.{Place}
@@ -36,6 +36,19 @@ placeOnGrid g (fin s m e) = placeOfSteps (originOfGrid g) s (m * up e * 2 ^ g) (
 unfoldable pub readOnGrid : ℕ → ℕ → Place
 unfolding placeOnGrid ofBits
 readOnGrid g b = placeOnGrid g (ofBits binary64 b)
+
+-- no place of any grid, since each ends before it: the largest 32-bit number
+abbrev pub nowhere : ℕ
+nowhere = 0xFFFFFFFF
+
+-- A place as one number. What is off the grid is nowhere, so that it can't be taken for a place.
+abbrev pub placeAt : Place → ℕ
+placeAt (On p) = p
+placeAt Off = nowhere
+
+abbrev pub onGrid : Place → Bool
+onGrid (On p) = true
+onGrid Off = false
 
 -- how far apart two numbers are
 abbrev pub gap : ℕ → ℕ → ℕ

@@ -1,6 +1,6 @@
 // Coordinates: from the 64 bits that a file holds to a place on the grid, and back.
 ghost use mathlib.Core.Path.{_≡_};
-ghost use Rattle.grid.specs.Grid.{readPlace, coordinate, writePlace};
+ghost use Rattle.grid.specs.Grid.{readPlace, placeAt, coordinate, writePlace};
 
 // Where a coordinate lies: so many grid steps from -4,096, or not on the grid.
 pub enum Place {
@@ -10,6 +10,9 @@ pub enum Place {
 
 // The place of 0: 4,096 in steps of 1/1,024.
 pub const ORIGIN: u32 = 4_194_304;
+
+// What stands for a coordinate that is off the grid: no place of it.
+pub const NOWHERE: u32 = 4_294_967_295;
 
 // An f64's bits are its sign, the field of its exponent, which has eleven digits, and the 52 digits
 // below its leading one. This is the weight of the sign.
@@ -57,6 +60,16 @@ pub fn read_place(bits: u64) -> Place
         Place::On(ORIGIN + count)
     } else {
         Place::On(ORIGIN - count)
+    }
+}
+
+// A place as one number.
+pub fn place_number(place: Place) -> u32
+    ensures { λ r. ⌜ r ≡ placeAt place ⌝ }
+{
+    match place {
+        Place::On(at) => at,
+        Place::Off => NOWHERE,
     }
 }
 

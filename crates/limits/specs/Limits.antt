@@ -5,6 +5,32 @@ use Prim.Native.Nat.{ℕ, _+_, _*_, _/_}
 abbrev pub mostBytes : ℕ
 mostBytes = 65536
 
+-- the kinds of record; and the bytes of a record's head, of settings, of a point and of a link (checks 3 and 4)
+abbrev pub kindSettings : ℕ
+kindSettings = 1
+
+abbrev pub kindLine : ℕ
+kindLine = 2
+
+abbrev pub kindLink : ℕ
+kindLink = 3
+
+-- the line that is answered
+abbrev pub kindAnswer : ℕ
+kindAnswer = 4
+
+abbrev pub headSize : ℕ
+headSize = 6
+
+abbrev pub settingsSize : ℕ
+settingsSize = 10
+
+abbrev pub pointSize : ℕ
+pointSize = 16
+
+abbrev pub linkSize : ℕ
+linkSize = 40
+
 -- check 5
 abbrev pub mostSide : ℕ
 mostSide = 8192

@@ -1,7 +1,20 @@
 -- What the code's constants are: the limits, sizes and numbers of the definitions.
+use Rattle.limits.specs.declared.Layout.{Layout}
 use Rattle.limits.specs.declared.Limits.{Limits}
 use Rattle.limits.specs.declared.Refusals.{Refusals}
 use Rattle.limits.specs.Limits as named
+
+abbrev pub layoutIs : Layout
+layoutIs = record {
+  settings = named.kindSettings;
+  line = named.kindLine;
+  link = named.kindLink;
+  answer = named.kindAnswer;
+  «head_size» = named.headSize;
+  «settings_size» = named.settingsSize;
+  «point_size» = named.pointSize;
+  «link_size» = named.linkSize;
+}
 
 abbrev pub limitsAre : Limits
 limitsAre = record {

@@ -1,10 +1,28 @@
 // The limits and the refusals of document 01, for the code. specs/Limits.antt has them for the definitions;
-// `limits_tied` and `refusals_tied` tie the two together.
+// `layout_tied`, `limits_tied` and `refusals_tied` tie the two together.
 ghost use mathlib.Core.Path.{_≡_};
-ghost use Rattle.limits.specs.Tied.{limitsAre, refusalsAre};
+ghost use Rattle.limits.specs.Tied.{layoutIs, limitsAre, refusalsAre};
 
 // Check 1: the bytes of a file.
 pub const MOST_BYTES: usize = 65_536;
+
+// The kinds of record; and the bytes of a record's head, of settings, of a point and of a link (checks 3 and 4).
+pub const KIND_SETTINGS: u16 = 1;
+
+pub const KIND_LINE: u16 = 2;
+
+pub const KIND_LINK: u16 = 3;
+
+// The line that is answered.
+pub const KIND_ANSWER: u16 = 4;
+
+pub const HEAD_SIZE: usize = 6;
+
+pub const SETTINGS_SIZE: usize = 10;
+
+pub const POINT_SIZE: usize = 16;
+
+pub const LINK_SIZE: usize = 40;
 
 // Check 5: a side of the canvas, the pairing byte and the flags byte.
 pub const MOST_SIDE: u32 = 8192;
@@ -70,6 +88,33 @@ pub const REFUSED_PATH: u8 = 12;
 pub const REFUSED_EDGES: u8 = 13;
 
 pub const REFUSED_OUTPUT: u8 = 14;
+
+pub struct Layout {
+    pub settings: u16,
+    pub line: u16,
+    pub link: u16,
+    pub answer: u16,
+    pub head_size: usize,
+    pub settings_size: usize,
+    pub point_size: usize,
+    pub link_size: usize,
+}
+
+// The code's kinds and lengths of records are those of the definitions.
+pub fn layout_tied() -> Layout
+    ensures { λ r. ⌜ r ≡ layoutIs ⌝ }
+{
+    Layout {
+        settings: KIND_SETTINGS,
+        line: KIND_LINE,
+        link: KIND_LINK,
+        answer: KIND_ANSWER,
+        head_size: HEAD_SIZE,
+        settings_size: SETTINGS_SIZE,
+        point_size: POINT_SIZE,
+        link_size: LINK_SIZE,
+    }
+}
 
 pub struct Limits {
     pub bytes: usize,

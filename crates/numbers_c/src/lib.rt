@@ -1,9 +1,7 @@
 // The numbers for a program in another language, which can then hold them against its own.
 ghost use mathlib.Core.Path.{_≡_};
-ghost use Rattle.grid.specs.Grid.{readPlace, writePlace};
+ghost use Rattle.grid.specs.Grid.{readPlace, writePlace, placeAt};
 ghost use Rattle.length.specs.Root.{lengthOf};
-ghost use Rattle.numbers_c.specs.Numbers.{placeNumber};
-use grid::Place;
 
 // The f64 nearest to the root of n squared grid steps, in pixels.
 #[no_mangle]
@@ -13,21 +11,12 @@ pub extern "C" fn numbers_c_length(n: u64) -> f64
     length::length(n)
 }
 
-fn place_number(place: Place) -> u32
-    ensures { λ r. ⌜ r ≡ placeNumber place ⌝ }
-{
-    match place {
-        Place::On(at) => at,
-        Place::Off => 4294967295,
-    }
-}
-
 // The place of a coordinate's bits, or the largest u32 for bits that are off the grid.
 #[no_mangle]
 pub extern "C" fn numbers_c_read_place(bits: u64) -> u32
-    ensures { λ r. ⌜ r ≡ placeNumber (readPlace bits) ⌝ }
+    ensures { λ r. ⌜ r ≡ placeAt (readPlace bits) ⌝ }
 {
-    place_number(grid::read_place(bits))
+    grid::place_number(grid::read_place(bits))
 }
 
 // The bits of the coordinate at a place.

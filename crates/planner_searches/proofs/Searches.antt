@@ -11,7 +11,8 @@ use lib.Dec.{leb, lit≤}
 use borrow.Author.Tests.{leb-false}
 use Rattle.limits.specs.Limits.{mostEdges, refusedEdges}
 use Rattle.drawing_spec.specs.Drawing.{Settings, closing}
-use Rattle.drawing_spec.proofs.Accepted.{Fits, accepted-fits}
+use Rattle.drawing_spec.specs.Accepted.{Passed}
+use Rattle.drawing_spec.proofs.Accepted.{accepted-passes}
 use Rattle.graph_spec.specs.Graph.{Edge, Graph, buildGraph}
 use Rattle.graph_spec.specs.Odd.{oddNodes}
 use Rattle.graph_spec.specs.Reach.{allReached}
@@ -97,13 +98,13 @@ module _ (most number : ℕ) (g : Graph) (s : Settings) (G : Searchable (searche
       let u = getD (oddListOf g) i 0 in
       subst (LeastFinite (g .edges) u v) (sym (row-known n (g .edges) (oddListOf g) i v h)) (least-finite n (g .edges) G C u (odd-at n (g .edges) i h) v hv)
 
--- For every file that passes checks 1 to 9
-pub file-searches : (file : List ℕ) → Fits file → allReached (length (buildGraph (drawingIn file) .nodes)) (buildGraph (drawingIn file) .edges) ≡ true → Searches file
+-- For every file that passes checks 1 to 7 and 9
+pub file-searches : (file : List ℕ) → Passed file → allReached (length (buildGraph (drawingIn file) .nodes)) (buildGraph (drawingIn file) .edges) ≡ true → Searches file
 unfolding repairOf
-file-searches file fits reached =
+file-searches file passes reached =
     let g = buildGraph (drawingIn file) in
     let s = drawingIn file .settings in
-    let G = graph-searchable file fits in
+    let G = graph-searchable file passes in
     let C = reached-one-piece (length (g .nodes)) (g .edges) reached in
     record {
       of-repair = repair-searches mostEdges refusedEdges g s G C;
@@ -116,4 +117,4 @@ pub accepted-searches : (file : List ℕ) (lent : Lent) (answer : Planned) → p
 accepted-searches file lent answer e =
     let a = file-planned file lent answer e in
     let d = rw (drawing-graph (drawingIn file) lent) at (rw (a .1) at e) in
-    file-searches file (accepted-fits file (a .0)) (drawn-plan (buildGraph (drawingIn file)) (drawingIn file .settings) lent answer d .reached)
+    file-searches file (accepted-passes file (a .0)) (drawn-plan (buildGraph (drawingIn file)) (drawingIn file .settings) lent answer d .reached)

@@ -10,15 +10,20 @@ use lib.Ieee.{Float, fin}
 use Rattle.drawing_spec.specs.Drawing.{Point, Settings}
 use Rattle.drawing_spec.specs.Refusal.{numberOf}
 use Rattle.graph_spec.specs.Graph.{Edge, edge, Graph}
-use Rattle.repair_spec.specs.Repair.{Repairing, stopped, repaired}
+use Rattle.repair_spec.specs.Repair.{Repair, Repairing, stopped, repaired}
 use Rattle.planner_spec.specs.LineRecord.{lineRecord, inFront, lineWritten, Written}
 use Rattle.planner_spec.proofs.LineRecord.{record-length}
-use Rattle.planner_spec.specs.Plan.{Lent, Answer, refusal, planned, repairOf, planConditions, planGraph}
+use Rattle.planner_spec.specs.Plan.{Lent, Answer, refusal, planned, repairOf, graphConditions, outputConditions, planRepaired, planGraph}
 
--- whatever the graph, the settings and what is lent
-in-order : (g : Graph) (s : Settings) (lent : Lent) → map numberOf (planConditions g s lent) ≡ 9 ∷ 10 ∷ 11 ∷ 12 ∷ 13 ∷ 14 ∷ []
-unfolding planConditions
-in-order g s lent = refl
+-- whatever the graph, the settings, what is lent and the repair
+in-order : (g : Graph) (s : Settings) (lent : Lent) (r : Repair) → map numberOf (graphConditions g s lent ++ outputConditions g s lent r) ≡ 9 ∷ 10 ∷ 11 ∷ 14 ∷ []
+unfolding graphConditions outputConditions
+in-order g s lent r = refl
+
+-- a repair that stopped is refused with its number, whichever that is, and not even a short output comes first
+stop-refuses : (g : Graph) (s : Settings) (output : List ℕ) (n : ℕ) → planRepaired g s (record { floats = 0; bytes = 0; output = output }) (stopped n) ≡ record { answer = refusal n; output = output }
+unfolding planRepaired
+stop-refuses g s output n = refl
 
 -- ---- graphs
 
@@ -141,4 +146,4 @@ module _ (line : List Point) (before : List ℕ) where
   -- with a NaN for the point's y
   off-grid : Written line before (16 ∷ 0 ∷ 0 ∷ 0 ∷ 4 ∷ 0 ∷ replicate 14 0 ++ 248 ∷ 127 ∷ []) → ⊥
   unfolding lineWritten lineRecord
-  off-grid w = let k : _≡_ {A = ℕ} 127 192 = ap (λ (bs : List ℕ). getD bs 21 0) (own (16 ∷ 0 ∷ 0 ∷ 0 ∷ 4 ∷ 0 ∷ replicate 14 0 ++ 248 ∷ 127 ∷ []) w) in omega arith
+  off-grid w = let k : _≡_ {A = ℕ} 127 65 = ap (λ (bs : List ℕ). getD bs 21 0) (own (16 ∷ 0 ∷ 0 ∷ 0 ∷ 4 ∷ 0 ∷ replicate 14 0 ++ 248 ∷ 127 ∷ []) w) in omega arith

@@ -11,15 +11,15 @@ use lib.Seq.{drop-drop}
 use lib.Ieee.{binary64}
 use lib.Ieee.Bits.{toBits-lt}
 use lib.Ieee.Fits.{round-fits}
-use Rattle.grid.specs.Grid.{origin, gridExponent, readPlace, writePlace}
+use Rattle.grid.specs.Grid.{origin, gridExponent, readPlace, writePlace, placeAt}
 use Rattle.grid.proofs.Back.{read-write, write-is, coordinate-is}
 use Rattle.drawing_spec.specs.Bytes.{number, bytes}
 use Rattle.drawing_spec.proofs.Back.{number-bytes, bytes-length, drop-bytes}
 use Rattle.drawing_spec.specs.Drawing.{Point}
 use Rattle.lists.specs.Members.{All}
 use Rattle.drawing_spec.specs.OnGrid.{OnGrid}
-use Rattle.drawing_spec.specs.Read.{placeAt, points}
-use Rattle.drawing_spec.proofs.Accepted.{points-one}
+use Rattle.drawing_spec.specs.Read.{points}
+use Rattle.drawing_spec.proofs.Placed.{point-is, points-one, no-points}
 use Rattle.planner_spec.specs.LineRecord.{pointBytes, lineRecord, lineWritten}
 
 -- a coordinate's pattern has 64 bits
@@ -33,10 +33,6 @@ coordinate-back p rest h = rw (number-bytes 8 (writePlace p) rest (written-below
 point-bytes : (p : Point) (ps : List Point) (rest : List ℕ) → pointBytes (p ∷ ps) ++ rest ≡ bytes 8 (writePlace (p .x)) ++ (bytes 8 (writePlace (p .y)) ++ (pointBytes ps ++ rest))
 unfolding pointBytes
 point-bytes p ps rest = simp append-assoc
-
-no-points : (bs : List ℕ) → points 0 bs ≡ []
-unfolding points
-no-points bs = refl
 
 -- what stands n bytes behind the first m
 drop-on : (m n : ℕ) (bs cs ds : List ℕ) → drop m bs ≡ cs → drop n cs ≡ ds → drop (m + n) bs ≡ ds
@@ -53,7 +49,7 @@ points-back (p ∷ ps) rest a =
     let px : placeAt (readPlace (number 8 x)) ≡ p .x = coordinate-back (p .x) y (a .0 .0) in
     let py : placeAt (readPlace (number 8 (drop 8 x))) ≡ p .y = rw dx (coordinate-back (p .y) tail (a .0 .1)) in
     let others : points (length ps) (drop 16 x) ≡ ps = rw dy (points-back ps rest (a .1)) in
-    rw (point-bytes p ps rest) (points-one (length ps) x ∙ λ i. record { x = px i; y = py i } ∷ others i)
+    rw (point-bytes p ps rest) (points-one (length ps) x ∙ ap (λ (q : Point). q ∷ points (length ps) (drop 16 x)) (point-is x) ∙ λ i. record { x = px i; y = py i } ∷ others i)
 
 line-record : (line : List Point) (rest : List ℕ) → lineRecord line ++ rest ≡ bytes 4 (16 * length line) ++ (bytes 2 4 ++ (pointBytes line ++ rest))
 unfolding lineRecord

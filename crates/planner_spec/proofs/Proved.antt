@@ -13,7 +13,7 @@ use Rattle.drawing_spec.specs.OnGrid.{OnGrid}
 use Rattle.drawing_spec.specs.Accepted.{InLimits}
 use Rattle.drawing_spec.specs.Refusal.{accepted, verdict}
 use Rattle.drawing_spec.specs.Read.{readConditions}
-use Rattle.drawing_spec.proofs.Accepted.{accepted-fits, in-limits}
+use Rattle.drawing_spec.proofs.Accepted.{accepted-passes, in-limits}
 use Rattle.graph_spec.specs.Pieces.{strokesOf}
 use Rattle.graph_spec.specs.Graph.{pointAt, buildGraph}
 use Rattle.graph_spec.specs.Odd.{isOdd}
@@ -30,7 +30,7 @@ use Rattle.planner_spec.specs.LineRecord.{inFront, lineRecord, Written}
 use Rattle.planner_spec.specs.Plan.{Lent, Planned, Outcome, drawingIn, repairOf, lineFor, planDrawing}
 use Rattle.planner_spec.specs.Words.{retracesIn, copiesBetween, copiesAt, odd, leftOdd}
 use Rattle.planner_spec.proofs.LineRecord.{line-back, record-length}
-use Rattle.planner_spec.proofs.Plan.{line-repaired, drawing-graph, Drawn, drawn, file-planned}
+use Rattle.planner_spec.proofs.Plan.{drawing-graph, Drawn, drawn, file-planned}
 use Rattle.planner_spec.proofs.Drawn.{drawn-between, drawn-at}
 use Rattle.planner_spec.proofs.Counted.{nodeLine, line, ways, copies, copiesTouching, steps-counted, copies-drawn, steps-apart, line-few}
 use Rattle.planner_spec.proofs.LineEnds.{ends-meet, ends-odd}
@@ -49,9 +49,9 @@ module _ (d : Drawing) (limits : InLimits d) (lent : Lent) (answer : Planned) (D
   near : (v : ℕ) → v < length (buildGraph d .nodes) → Reach (buildGraph d .edges) 0 v
   near = all-reached (length (buildGraph d .nodes)) (buildGraph d .edges) (D .reached)
 
-  line-is : lineFor (buildGraph d) (d .settings) ≡ line d r
-  unfolding lineOf
-  line-is = line-repaired (buildGraph d) (d .settings) r (D .repairs)
+  line-is : lineFor (buildGraph d) (d .settings) r ≡ line d r
+  unfolding lineFor
+  line-is = refl
 
   -- ---- every point of the line is on the grid, and there are few of them, so the record is read back as the line
 
@@ -131,7 +131,7 @@ drawing-demand3 d limits lent answer h = planned-demand3 d limits lent answer (d
 -- and of every file that is.
 file-limits : (file : List ℕ) → verdict (readConditions file) ≡ accepted → InLimits (drawingIn file)
 unfolding drawingIn
-file-limits file h = in-limits file (accepted-fits file h)
+file-limits file h = in-limits file (accepted-passes file h)
 
 pub demand3 : Statement
 demand3 file lent answer h =

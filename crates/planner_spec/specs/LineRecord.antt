@@ -5,6 +5,7 @@ use mathlib.Core.List.{List, [], _∷_, _++_}
 use mathlib.Core.Bool.{true, false}
 use lib.ListN.{length, drop}
 use lib.Dec.{eqb}
+use Rattle.limits.specs.Limits.{kindAnswer, headSize, pointSize}
 use Rattle.grid.specs.Grid.{writePlace, writeOnGrid}
 use Rattle.drawing_spec.specs.Bytes.{number, bytes}
 use Rattle.drawing_spec.specs.Drawing.{Point}
@@ -21,7 +22,7 @@ pointBytes (p ∷ ps) = bytes 8 (writePlace (p .x)) ++ bytes 8 (writePlace (p .y
 
 unfoldable pub lineRecord : List Point → List ℕ
 unfolding pointBytes
-lineRecord line = bytes 4 (16 * length line) ++ bytes 2 4 ++ pointBytes line
+lineRecord line = bytes 4 (pointSize * length line) ++ bytes 2 kindAnswer ++ pointBytes line
 
 -- a record at the front of the output; later bytes keep their value
 abbrev pub inFront : List ℕ → List ℕ → List ℕ
@@ -32,7 +33,7 @@ inFront written output = written ++ drop (length written) output
 -- The line written is the list of points in the kind 4 record at the front of the output.
 unfoldable pub lineWritten : List ℕ → List Point
 unfolding number points
-lineWritten output = elim (eqb (number 2 (drop 4 output)) 4) [ true ↦ points (number 4 output / 16) (drop 6 output) | false ↦ [] ]
+lineWritten output = elim (eqb (number 2 (drop 4 output)) kindAnswer) [ true ↦ points (number 4 output / pointSize) (drop headSize output) | false ↦ [] ]
 
 -- ---- what it is that the output, which had these bytes before, holds the line
 

@@ -1,11 +1,11 @@
 -- From a drawing, the lengths of the two work tables and the output's bytes to the answer, and to what the call leaves. A file's bytes come in at the end alone.
 use Prim.Native.Nat.{ℕ, _+_, _*_}
 use mathlib.Core.List.{List, [], _∷_}
-use mathlib.Core.Bool.{Bool, false, not}
+use mathlib.Core.Bool.{not}
 use lib.ListN.{length, replicate}
-use lib.Dec.{eqb, ltb}
+use lib.Dec.{ltb}
 use lib.Ieee.{Float, binary64, toBits}
-use Rattle.limits.specs.Limits.{mostOdd, mostEdges, refusedApart, refusedOdd, refusedTables, refusedPath, refusedEdges, refusedOutput}
+use Rattle.limits.specs.Limits.{headSize, pointSize, mostOdd, mostEdges, refusedApart, refusedOdd, refusedTables, refusedEdges, refusedOutput}
 use Rattle.drawing_spec.specs.Drawing.{Point, Settings, Drawing}
 use Rattle.drawing_spec.specs.Refusal.{Condition, condition, refused, accepted, verdict}
 use Rattle.drawing_spec.specs.Read.{recordsOf, drawingOf, readConditions}
@@ -13,7 +13,7 @@ use Rattle.graph_spec.specs.Graph.{Edge, Graph, buildGraph}
 use Rattle.graph_spec.specs.Odd.{oddNodes, oddFrom}
 use Rattle.graph_spec.specs.Reach.{allReached}
 use Rattle.repair_spec.specs.Distance.{zeroLength}
-use Rattle.repair_spec.specs.Repair.{Repair, Repairing, stopped, repaired, drawn, fixParity, tooManyOdd, tableShort}
+use Rattle.repair_spec.specs.Repair.{Repair, Repairing, stopped, repaired, fixParity, tooManyOdd, tableShort}
 use Rattle.walk_spec.specs.Line.{lineOf}
 use Rattle.planner_spec.specs.LineRecord.{lineRecord, inFront}
 
@@ -23,43 +23,36 @@ pub record Lent : Type 0 where
   pub bytes : ℕ
   pub output : List ℕ
 
--- ---- the parts of an answer, for any graph and settings; they mean something where no condition holds
+-- ---- repair, and the line through what is repaired
 
 -- how many nodes of the graph are odd, with these edges
 unfoldable pub oddCount : Graph → List Edge → ℕ
 unfolding oddFrom
 oddCount g es = length (oddNodes (length (g .nodes)) es)
 
+-- it stops with a number of its own: 12, or 13 for passing 4,000 edges
 unfoldable pub repairOf : Graph → Settings → Repairing
 unfolding fixParity
 repairOf g s = fixParity mostEdges refusedEdges g s
 
-abbrev pub stoppedBy : ℕ → Repairing → Bool
-stoppedBy n (stopped k) = eqb k n
-stoppedBy n (repaired r) = false
+unfoldable pub lineFor : Graph → Settings → Repair → List Point
+unfolding lineOf
+lineFor g s r = lineOf s (g .nodes) (r .edges)
 
-abbrev pub repairOr : Graph → Repairing → Repair
-repairOr g (stopped k) = drawn g
-repairOr g (repaired r) = r
+-- ---- the conditions in document 01's order: 9 to 11 before repair, and 14 behind it; 12 and 13, between them, are repair's own
 
-unfoldable pub lineFor : Graph → Settings → List Point
-unfolding repairOf lineOf
-lineFor g s = lineOf s (g .nodes) (repairOr g (repairOf g s) .edges)
-
--- ---- conditions 9 to 14, in document 01's order
-
-unfoldable pub planConditions : Graph → Settings → Lent → List Condition
-unfolding oddCount repairOf lineFor allReached tooManyOdd tableShort
-planConditions g s lent =
+unfoldable pub graphConditions : Graph → Settings → Lent → List Condition
+unfolding oddCount allReached tooManyOdd tableShort
+graphConditions g s lent =
     let odd = oddCount g (g .edges) in
-    let r = repairOf g s in
     condition refusedApart (not (allReached (length (g .nodes)) (g .edges)))
     ∷ condition refusedOdd (tooManyOdd mostOdd s odd)
     ∷ condition refusedTables (tableShort mostOdd s odd (lent .floats) (lent .bytes))
-    ∷ condition refusedPath (stoppedBy refusedPath r)
-    ∷ condition refusedEdges (stoppedBy refusedEdges r)
-    ∷ condition refusedOutput (ltb (length (lent .output)) (6 + 16 * length (lineFor g s)))
     ∷ []
+
+unfoldable pub outputConditions : Graph → Settings → Lent → Repair → List Condition
+unfolding lineFor
+outputConditions g s lent r = condition refusedOutput (ltb (length (lent .output)) (headSize + pointSize * length (lineFor g s r))) ∷ []
 
 -- ---- the answer, and the output after the call
 
@@ -78,22 +71,26 @@ pub record Outcome : Type 0 where
   pub output : List ℕ
 
 -- the values of an accepted call; the retrace by its f64's bits
-unfoldable pub answerFor : Graph → Settings → Planned
-unfolding oddCount repairOf lineFor toBits
-answerFor g s =
-    let r = repairOr g (repairOf g s) in
-    record { retrace = toBits binary64 (r .sum); before = oddCount g (g .edges); after = oddCount g (r .edges); points = length (lineFor g s) }
+unfoldable pub answerFor : Graph → Settings → Repair → Planned
+unfolding oddCount lineFor toBits
+answerFor g s r = record { retrace = toBits binary64 (r .sum); before = oddCount g (g .edges); after = oddCount g (r .edges); points = length (lineFor g s r) }
 
 -- a refusal leaves the output's bytes
 abbrev pub refuse : ℕ → Lent → Outcome
 refuse n lent = record { answer = refusal n; output = lent .output }
 
-abbrev pub accept : Graph → Settings → Lent → Outcome
-accept g s lent = record { answer = planned (answerFor g s); output = inFront (lineRecord (lineFor g s)) (lent .output) }
+abbrev pub accept : Graph → Settings → Lent → Repair → Outcome
+accept g s lent r = record { answer = planned (answerFor g s r); output = inFront (lineRecord (lineFor g s r)) (lent .output) }
+
+-- a repair that stopped refuses with its number, so nothing is accepted that is not repaired
+unfoldable pub planRepaired : Graph → Settings → Lent → Repairing → Outcome
+unfolding verdict outputConditions answerFor lineFor lineRecord
+planRepaired g s lent (stopped n) = refuse n lent
+planRepaired g s lent (repaired r) = elim (verdict (outputConditions g s lent r)) [ refused n ↦ refuse n lent | accepted ↦ accept g s lent r ]
 
 unfoldable pub planGraph : Graph → Settings → Lent → Outcome
-unfolding verdict planConditions answerFor lineFor lineRecord
-planGraph g s lent = elim (verdict (planConditions g s lent)) [ refused n ↦ refuse n lent | accepted ↦ accept g s lent ]
+unfolding verdict graphConditions repairOf planRepaired
+planGraph g s lent = elim (verdict (graphConditions g s lent)) [ refused n ↦ refuse n lent | accepted ↦ planRepaired g s lent (repairOf g s) ]
 
 -- a drawing, whether or not a file holds it
 unfoldable pub planDrawing : Drawing → Lent → Outcome

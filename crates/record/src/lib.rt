@@ -9,11 +9,9 @@ ghost use Rattle.limits.specs.Limits.{mostNodes, lineRoom};
 ghost use Rattle.drawing_spec.specs.Bytes.{bytes};
 ghost use Rattle.graph_arrays.specs.NodeList.{NodeList};
 ghost use Rattle.record.specs.Written.{placeBytes, pointsIn};
+use limits::KIND_ANSWER;
 use limits::LINE_ROOM;
 use limits::MOST_NODES;
-
-// The kind of a line that the planner writes.
-const LINE: u64 = 4;
 
 // Puts a number into `size` bytes from a place on.
 fn write_number(output: &mut [u8], at: usize, size: usize, n: u64)
@@ -53,7 +51,7 @@ pub fn write_line(
     ensures { λ _. ⌜ now (output .exit) ≡ inFront (lineRecord (pointsIn (now (xs .entry)) (now (ys .entry)) (now (line .entry)) count)) (now (output .entry)) ⌝ }
 {
     write_number(output, 0, 4, 16 * count as u64);
-    write_number(output, 4, 2, LINE);
+    write_number(output, 4, 2, KIND_ANSWER as u64);
     let mut i = 0;
     while i < count {
         let v = widen::wide(line[i]);

@@ -1,7 +1,6 @@
 -- `file_records::on_grid` meets its contract. Assumes nothing.
 use mathlib.Core.Path.{sym, ap, _∙_}
-use Rattle.grid.specs.Grid.{readPlace}
-use Rattle.drawing_spec.specs.Read.{onGrid}
+use Rattle.grid.specs.Grid.{readPlace, onGrid}
 use borrow.Author.Needs.{needs}
 use Rattle.file_records.proofs.on_grid.Statement.{statement}
 use Rattle.file_records.proofs.on_grid.Tie as tie

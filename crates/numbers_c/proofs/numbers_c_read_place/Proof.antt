@@ -1,7 +1,7 @@
 -- `numbers_c_read_place` meets its contract: both of its calls say what they answer. Assumes nothing.
 use mathlib.Core.Path.{ap, _∙_}
 use borrow.Author.Needs.{needs}
-use Rattle.numbers_c.specs.Numbers.{placeNumber}
+use Rattle.grid.specs.Grid.{placeAt}
 use Rattle.numbers_c.proofs.numbers_c_read_place.Statement.{statement}
 use Rattle.numbers_c.proofs.numbers_c_read_place.Tie as tie
 
@@ -12,7 +12,7 @@ place-number-requires : tie.Need-place-number-requires
 place-number-requires c κs = search needs
 
 returns : tie.Need-returns
-returns c = c .place-number .ensures ∙ ap placeNumber (c .before .read-place .ensures)
+returns c = c .place-number .ensures ∙ ap placeAt (c .before .read-place .ensures)
 
 pub numbers-c-read-place-spec : {M : Type 1} → statement M
 numbers-c-read-place-spec = tie.close (tie.spec read-place-requires place-number-requires returns)

@@ -1,0 +1,90 @@
+-- Laws of specs/Refusal: of conditions by their numbers, and of one list after another.
+use mathlib.Core.Path.{_≡_, refl, sym, ap, _∙_}
+use mathlib.Core.List.{List, [], _∷_, _++_}
+use mathlib.Core.Bool.{Bool, true, false, true≢false}
+use Prim.Native.Nat.{ℕ}
+use native.Mathlib.Omega.{arith}
+use lib.Dec.{eqb, ltb}
+use borrow.Author.Tests.{eqb-true, ltb-true}
+use Rattle.drawing_spec.specs.Refusal.{Condition, condition, numberOf, Verdict, refused, accepted, refusalOf, verdict, until, holds}
+use Rattle.drawing_spec.specs.Read.{every}
+use Rattle.drawing_spec.proofs.Same.{both}
+
+-- where nothing refuses, no condition holds, whichever its number
+pub fails : (cs : List Condition) → verdict cs ≡ accepted → (n : ℕ) → holds n cs ≡ false
+unfolding verdict holds
+fails [] e n = refl
+fails (condition k true ∷ cs) e n = absurd (true≢false (cc))
+fails (condition k false ∷ cs) e n = go (eqb k n) (fails cs e n)
+  where
+    go : (t : Bool) → holds n cs ≡ false → elim t [ true ↦ false | false ↦ holds n cs ] ≡ false
+    go true h = refl
+    go false h = h
+
+-- one that does not hold changes nothing
+pub one-more : (cs : List Condition) (n : ℕ) (t : Bool) → verdict cs ≡ accepted → t ≡ false → verdict (cs ++ (condition n t ∷ [])) ≡ accepted
+unfolding verdict
+one-more [] n t e h = rw h
+one-more (condition k true ∷ cs) n t e h = e
+one-more (condition k false ∷ cs) n t e h = one-more cs n t e h
+
+-- the first that holds: none before it does
+pub first-holds : (n : ℕ) (cs : List Condition) → verdict (until n cs) ≡ accepted → holds n cs ≡ true → verdict cs ≡ refused n
+unfolding verdict until holds
+first-holds n [] e h = absurd (true≢false (cc))
+first-holds n (condition k t ∷ cs) e h = go (first-holds n cs) (eqb k n) refl t e h
+  where
+    go : (verdict (until n cs) ≡ accepted → holds n cs ≡ true → verdict cs ≡ refused n) → (b : Bool) → eqb k n ≡ b → (t : Bool) → verdict (elim b [ true ↦ [] | false ↦ condition k t ∷ until n cs ]) ≡ accepted → elim b [ true ↦ t | false ↦ holds n cs ] ≡ true
+        → verdict (condition k t ∷ cs) ≡ refused n
+    go later true q true e h = ap refused (eqb-true k n q)
+    go later true q false e h = absurd (true≢false (cc))
+    go later false q true e h = absurd (true≢false (cc))
+    go later false q false e h = later e h
+
+-- one list of conditions after another
+abbrev pub orElse : Verdict → Verdict → Verdict
+orElse (refused n) v = refused n
+orElse accepted v = v
+
+pub verdict-append : (cs ds : List Condition) → verdict (cs ++ ds) ≡ orElse (verdict cs) (verdict ds)
+unfolding verdict
+verdict-append [] ds = refl
+verdict-append (condition n true ∷ cs) ds = refl
+verdict-append (condition n false ∷ cs) ds = verdict-append cs ds
+
+pub both-accepted : (cs ds : List Condition) → verdict (cs ++ ds) ≡ accepted → (verdict cs ≡ accepted) × (verdict ds ≡ accepted)
+unfolding verdict
+both-accepted [] ds e = (refl, e)
+both-accepted (condition n true ∷ cs) ds e = absurd (true≢false (cc))
+both-accepted (condition n false ∷ cs) ds e = both-accepted cs ds e
+
+-- what is refused before a condition is refused
+pub refused-before : (n m : ℕ) (cs : List Condition) → verdict (until n cs) ≡ refused m → verdict cs ≡ refused m
+unfolding verdict until
+refused-before n m [] e = e
+refused-before n m (condition k t ∷ cs) e = go (refused-before n m cs) (eqb k n) t e
+  where
+    go : (verdict (until n cs) ≡ refused m → verdict cs ≡ refused m) → (b t : Bool) → verdict (elim b [ true ↦ [] | false ↦ condition k t ∷ until n cs ]) ≡ refused m → verdict (condition k t ∷ cs) ≡ refused m
+    go later true t e = absurd (true≢false (cc))
+    go later false true e = e
+    go later false false e = later e
+
+-- where nothing refuses, nothing before a condition does
+pub accepted-before : (n : ℕ) (cs : List Condition) → verdict cs ≡ accepted → verdict (until n cs) ≡ accepted
+accepted-before n cs e = go (verdict (until n cs)) refl
+  where
+    go : (v : Verdict) → verdict (until n cs) ≡ v → v ≡ accepted
+    go accepted h = refl
+    go (refused m) h = let z : accepted ≡ refused m = sym e ∙ refused-before n m cs h in absurd (true≢false (cc))
+
+-- ---- the verdict as a number, where 0 is none's
+
+pub above-zero : (cs : List Condition) → every (λ (c : Condition). ltb 0 (numberOf c)) cs ≡ true → refusalOf (verdict cs) ≡ 0 → verdict cs ≡ accepted
+unfolding every verdict
+above-zero [] a h = refl
+above-zero (condition n true ∷ cs) a h = let p = ltb-true 0 n (both (ltb 0 n) _ a .0) in absurd (omega arith)
+above-zero (condition n false ∷ cs) a h = above-zero cs (both (ltb 0 n) _ a .1) h
+
+pub number-refused : (v : Verdict) (n : ℕ) → n ≡ refusalOf v → (n ≡ 0 → ⊥) → v ≡ refused n
+number-refused (refused m) n e z = ap refused (sym e)
+number-refused accepted n e z = absurd (z e)

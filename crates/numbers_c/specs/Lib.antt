@@ -1,2 +1,0 @@
--- What the exported numbers answer.
-pub mod Numbers
