@@ -22,7 +22,7 @@ use Rattle.repair.specs.Parity.{Value, refusal, values, valueOf, parityFor}
 use Rattle.walk_spec.specs.Line.{lineOf}
 use Rattle.planner_spec.specs.LineRecord.{lineRecord, inFront}
 use Rattle.planner_spec.specs.Plan as plan
-use Rattle.planner_spec.proofs.Plan.{plan-many, plan-tables, plan-stopped, plan-output, plan-drawn, line-repaired, answer-repaired}
+use Rattle.planner_spec.proofs.Plan.{plan-many, plan-tables, plan-stopped, plan-output, plan-drawn}
 use Rattle.planner_graph.proofs.Sum.{repair-summed}
 
 module _ (g : Graph) (s : Settings) (lent : plan.Lent) where
@@ -130,8 +130,9 @@ module _ (g : Graph) (s : Settings) (lent : plan.Lent) where
         go false false p q = stopped-so p q (plan.repairOf g s) refl (e ∙ parity-by false false p q)
 
     module _ (x : Float) (before after : ℕ) (es : List Edge) (M : Mended x before after es) (line : List Point) (line-is : line ≡ lineOf s (g .nodes) es) where
-      line-for : plan.lineFor g s ≡ line
-      line-for = line-repaired g s (M .repair) (M .repairs) ∙ ap (lineOf s (g .nodes)) (M .edges-are) ∙ sym line-is
+      line-for : plan.lineFor g s (M .repair) ≡ line
+      unfolding plan.lineFor
+      line-for = ap (lineOf s (g .nodes)) (M .edges-are) ∙ sym line-is
 
       pub short-planned : ltb (length (lent .output)) (6 + 16 * length line) ≡ true → plan.planGraph g s lent ≡ plan.refuse refusedOutput lent
       unfolding plan.oddCount
@@ -140,14 +141,12 @@ module _ (g : Graph) (s : Settings) (lent : plan.Lent) where
 
       pub line-planned : ltb (length (lent .output)) (6 + 16 * length line) ≡ false
           → plan.planGraph g s lent ≡ record { answer = plan.planned (record { retrace = toBits binary64 x; before = before; after = after; points = length line }); output = inFront (lineRecord line) (lent .output) }
-      unfolding plan.oddCount
+      unfolding plan.oddCount plan.answerFor
       line-planned h =
           let open-room = ap (λ (l : List Point). ltb (length (lent .output)) (6 + 16 * length l)) line-for ∙ h in
-          let answer = answer-repaired g s (M .repair) (M .repairs) in
-          let points : lineOf s (g .nodes) (M .repair .edges) ≡ line = sym (line-repaired g s (M .repair) (M .repairs)) ∙ line-for in
           plan-drawn g s lent reached (M .few) (M .long) (M .repair) (M .repairs) open-room
           ∙ (λ i. record {
-            answer = plan.planned ((answer ∙ (λ j. record { retrace = toBits binary64 (M .sum-is j); before = M .before-is j; after = M .after-is j; points = length (points j) })) i);
+            answer = plan.planned (record { retrace = toBits binary64 (M .sum-is i); before = M .before-is i; after = M .after-is i; points = length (line-for i) });
             output = inFront (lineRecord (line-for i)) (lent .output);
           })
 

@@ -13,6 +13,9 @@ use limits::KIND_ANSWER;
 use limits::LINE_ROOM;
 use limits::MOST_NODES;
 
+// The kind of the line that is answered, as a number to write.
+const KIND: u64 = KIND_ANSWER as u64;
+
 // Puts a number into `size` bytes from a place on.
 fn write_number(output: &mut [u8], at: usize, size: usize, n: u64)
     requires { ⌜ at + size ≤ length (now output) ⌝ }
@@ -51,7 +54,7 @@ pub fn write_line(
     ensures { λ _. ⌜ now (output .exit) ≡ inFront (lineRecord (pointsIn (now (xs .entry)) (now (ys .entry)) (now (line .entry)) count)) (now (output .entry)) ⌝ }
 {
     write_number(output, 0, 4, 16 * count as u64);
-    write_number(output, 4, 2, KIND_ANSWER as u64);
+    write_number(output, 4, 2, KIND);
     let mut i = 0;
     while i < count {
         let v = widen::wide(line[i]);
