@@ -1,7 +1,9 @@
 -- Laws of the definitions in specs/.
 pub mod Circuit
+pub mod EulerLine
 pub mod Examples
 pub mod Free
+pub mod Line
 pub mod Next
 pub mod Orient
 pub mod Start

@@ -9,3 +9,5 @@ pub mod VirtualStep
 pub mod Orient
 -- the line, of these:
 pub mod Line
+-- what a line through every edge once is:
+pub mod EulerLine
