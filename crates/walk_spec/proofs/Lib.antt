@@ -1,5 +1,6 @@
 -- Laws of the definitions in specs/.
 pub mod Circuit
+pub mod EulerExamples
 pub mod EulerLine
 pub mod Examples
 pub mod Free

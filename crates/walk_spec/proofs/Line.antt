@@ -1,7 +1,8 @@
 -- The walk through a connected graph of which none or two nodes are odd is an Euler line.
 use mathlib.Core.Path.{_≡_, refl, sym, ap, _∙_, subst}
 use mathlib.Core.Logic.{_⊎_, inl, inr}
-use mathlib.Core.List.{List, [], _∷_, _++_}
+use mathlib.Core.List.{List, [], _∷_, _++_, map, reverse}
+use mathlib.Mathlib.Data.List.Basic.{map-reverseAux}
 use Prim.Native.Nat.{ℕ, _%_, _<_}
 use native.Mathlib.Nat.{zero-add, zero-lt-suc}
 use native.Mathlib.Decide.{ℕ-discrete}
@@ -11,7 +12,7 @@ use lib.Ieee.{Float}
 use Rattle.drawing_spec.specs.Drawing.{Point, Settings}
 use Rattle.lists.specs.Members.{In}
 use Rattle.lists.proofs.Members.{in-left, in-append}
-use Rattle.graph_spec.specs.Graph.{Edge, edge}
+use Rattle.graph_spec.specs.Graph.{Edge, edge, pointAt}
 use Rattle.graph_spec.specs.Odd.{hit, degree, oddNodes}
 use Rattle.graph_spec.specs.Ways.{Inside, Joins, Reach}
 use Rattle.graph_spec.proofs.Sums.{hit-same, hit-other, degree-append}
@@ -21,9 +22,12 @@ use Rattle.repair_spec.specs.Distance.{zeroLength}
 use Rattle.walk_spec.specs.EulerLine.{EulerLine, Leads}
 use Rattle.walk_spec.specs.Walk.{Entry, circuit, nodesOf}
 use Rattle.walk_spec.specs.Start.{best, withEdges}
-use Rattle.walk_spec.specs.Line.{euler, hierholzer}
+use Rattle.walk_spec.specs.Line.{euler, hierholzer, lineOf}
+use Rattle.walk_spec.specs.Orient.{orient, endPoints}
 use Rattle.walk_spec.proofs.Circuit.{Circuit, circuit-is, stepsOf, stepsOf-nodes, trail-leads, trail-times}
 use Rattle.walk_spec.proofs.VirtualStep.{CutLine, cut-line}
+use Rattle.walk_spec.proofs.EulerLine.{euler-reverse}
+use Rattle.walk_spec.proofs.Orient.{orient-keeps}
 use Rattle.walk_spec.proofs.Start.{best-keeps, withEdges-within}
 
 -- ---- a circuit, where no node is odd
@@ -121,3 +125,22 @@ pub hierholzer-line : (s : Settings) (p : Point) (ps : List Point) (es : List Ed
 unfolding hierholzer
 hierholzer-line s p ps es inside reached (inl h) = closed-walk s p ps es inside reached h
 hierholzer-line s p ps es inside reached (inr h) = open-walk s p ps es inside reached (h .0) (h .1) (h .2)
+
+-- ---- as points, whichever end comes first
+
+pub record EulerPoints (ns : List Point) (es : List Edge) (line : List Point) : Type 0 where
+  pub way : List ℕ
+  pub points : line ≡ map (pointAt ns) way
+  pub euler : EulerLine (length ns) es way
+
+pub lineOf-euler : (s : Settings) (ns : List Point) (es : List Edge) → EulerLine (length ns) es (hierholzer s ns es) → EulerPoints ns es (lineOf s ns es)
+unfolding lineOf
+lineOf-euler s ns es E =
+    let way = hierholzer s ns es in
+    orient-keeps (EulerPoints ns es) s (map (pointAt ns) way) (record { way = way; points = refl; euler = E })
+    (record { way = reverse way; points = sym (map-reverseAux (pointAt ns) way []); euler = euler-reverse (length ns) es way E })
+
+-- with no nodes there is no line
+pub lineOf-none : (s : Settings) (es : List Edge) → lineOf s [] es ≡ []
+unfolding lineOf hierholzer orient endPoints
+lineOf-none s es = refl
