@@ -1,4 +1,4 @@
--- The line that is written for a file is an Euler line of the repaired graph: it goes along every piece, link and copy once, each by its own number.
+-- The line that is written for a file is an Euler line of the repaired graph: it goes along every edge that the drawing has or repair laid once, by the edge's number.
 use mathlib.Core.Path.{_≡_, refl, sym, ap, _∙_, subst}
 use mathlib.Core.Logic.{_⊎_, inl, inr}
 use mathlib.Core.List.{List, [], _∷_, map}

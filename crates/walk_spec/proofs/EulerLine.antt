@@ -9,14 +9,14 @@ use lib.ListN.{length, length-append, getD, set, replicate, getD-replicate, List
 use lib.Seq.{getD-set-other}
 use Rattle.lists.specs.Members.{All}
 use Rattle.graph_spec.specs.Graph.{Edge}
-use Rattle.graph_spec.specs.Odd.{one, hit, oddNodes}
+use Rattle.graph_spec.specs.Odd.{one, hit}
 use Rattle.graph_spec.specs.Count.{sumOver, stepSum, lastFrom}
 use Rattle.graph_spec.specs.Ways.{Inside, Joins}
 use Rattle.graph_spec.proofs.Sums.{hit-same, HitCases, hit-cases, sumOver-append}
 use Rattle.graph_spec.proofs.Odd.{oddNodes-member}
 use Rattle.graph_spec.proofs.Connected.{joins-sym, joins-inside}
 use Rattle.graph_spec.proofs.EdgesAt.{edgeAt, edgeAt-in}
-use Rattle.walk_spec.specs.EulerLine.{Step, Along, Leads, times, EulerLine}
+use Rattle.walk_spec.specs.EulerLine.{Step, Leads, times, EulerLine}
 use Rattle.walk_spec.proofs.Free.{freeSum, isFree, freeSum-use, freeSum-none, freeSum-all, allSum-ends, used-set}
 
 -- the nodes that steps go to

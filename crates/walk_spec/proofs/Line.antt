@@ -14,7 +14,7 @@ use Rattle.lists.specs.Members.{In}
 use Rattle.lists.proofs.Members.{in-left, in-append}
 use Rattle.graph_spec.specs.Graph.{Edge, edge, pointAt}
 use Rattle.graph_spec.specs.Odd.{hit, degree, oddNodes}
-use Rattle.graph_spec.specs.Ways.{Inside, Joins, Reach}
+use Rattle.graph_spec.specs.Ways.{Inside, Reach}
 use Rattle.graph_spec.proofs.Sums.{hit-same, hit-other, degree-append}
 use Rattle.graph_spec.proofs.Odd.{oddNodes-member, oddNodes-ascends, even-else}
 use Rattle.graph_spec.proofs.Connected.{reach-trans, reach-sym, joined-more, reach-more}

@@ -1,15 +1,14 @@
 -- What follows of every Euler line: its steps between any two nodes, its length and its ends.
-use mathlib.Core.Path.{_≡_, refl, sym, ap, _∙_}
+use mathlib.Core.Path.{_≡_, sym, ap, _∙_}
 use mathlib.Core.Logic.{_⊎_, inl, inr}
 use mathlib.Core.List.{List, [], _∷_}
 use mathlib.Core.Bool.{true≢false}
 use Prim.Native.Nat.{ℕ, suc, _<_}
-use native.Mathlib.Omega.{arith}
 use lib.ListN.{length, length-map}
 use Rattle.lists.specs.Members.{All}
 use Rattle.graph_spec.specs.Graph.{Edge}
 use Rattle.graph_spec.specs.Odd.{oddNodes}
-use Rattle.graph_spec.specs.Count.{sumOver, lineSum, lastFrom, joint, joining}
+use Rattle.graph_spec.specs.Count.{lineSum, lastFrom, joint, joining}
 use Rattle.graph_spec.specs.Ways.{Inside}
 use Rattle.graph_spec.proofs.Sums.{joins-joint}
 use Rattle.walk_spec.specs.EulerLine.{Step, EulerLine}
