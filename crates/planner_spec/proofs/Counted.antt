@@ -29,8 +29,10 @@ use Rattle.graph_spec.proofs.Between.{sum-none, sum-map, Agrees, nothing, lies-
 use Rattle.graph_spec.proofs.Built.{built-numbered, built-strokes, built-joining, built-degree, built-none, built-untouched}
 use Rattle.repair_spec.specs.Repair.{Repair}
 use Rattle.repair_spec.proofs.Repaired.{Repaired}
+use Rattle.walk_spec.specs.EulerLine.{EulerLine}
 use Rattle.walk_spec.specs.Line.{hierholzer}
 use Rattle.walk_spec.specs.Orient.{orient}
+use Rattle.walk_spec.proofs.Line.{hierholzer-line}
 use Rattle.walk_spec.proofs.Traced.{Traced, traced}
 use Rattle.walk_spec.proofs.Orient.{orient-sum, orient-length}
 
@@ -81,10 +83,10 @@ no-edges [] h = refl
 no-edges (e ∷ es) h = absurd (not-suc-le-zero (h e (inl refl) .0))
 
 -- the walk through any graph with nodes
-traced-through : (s : Settings) (ns : List Point) (es : List Edge) → 0 < length ns → Inside (length ns) es → ((v : ℕ) → v < length ns → Reach es 0 v)
-    → (oddNodes (length ns) es ≡ []) ⊎ ((u : ℕ) × (v : ℕ) × (oddNodes (length ns) es ≡ u ∷ v ∷ [])) → Traced (length ns) es (hierholzer s ns es)
-traced-through s [] es h = absurd (not-suc-le-zero h)
-traced-through s (p ∷ ps) es h = traced s p ps es
+line-through : (s : Settings) (ns : List Point) (es : List Edge) → 0 < length ns → Inside (length ns) es → ((v : ℕ) → v < length ns → Reach es 0 v)
+    → (oddNodes (length ns) es ≡ []) ⊎ ((u : ℕ) × (v : ℕ) × (oddNodes (length ns) es ≡ u ∷ v ∷ [])) → EulerLine (length ns) es (hierholzer s ns es)
+line-through s [] es h = absurd (not-suc-le-zero h)
+line-through s (p ∷ ps) es h = hierholzer-line s p ps es
 
 -- ---- the line of a repaired drawing, its retraces and copies, as points
 
@@ -126,8 +128,11 @@ module _ (d : Drawing) (r : Repair) (F : Repaired mostEdges (buildGraph d) (d .s
         go false [] c o = inl (F .none-left (inr o))
         go false (x ∷ vs) c o = let t = F .two-left c (λ z. true≢false (cc)) in inr (t .0, t .1, t .3)
 
+    pub euler-line : 0 < length nodes → EulerLine (length nodes) (r .edges) (nodeLine d r)
+    euler-line h = line-through (d .settings) nodes (r .edges) h (F .copied .inside) reach-repaired left-odd
+
     pub trace : 0 < length nodes → Traced (length nodes) (r .edges) (nodeLine d r)
-    trace h = traced-through (d .settings) nodes (r .edges) h (F .copied .inside) reach-repaired left-odd
+    trace h = traced (length nodes) (r .edges) (nodeLine d r) (F .copied .inside) (euler-line h)
 
     -- what holds of the line, also where there are no nodes
     record Steps (line : List ℕ) : Type 0 where

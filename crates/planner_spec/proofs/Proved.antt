@@ -42,11 +42,11 @@ module _ (d : Drawing) (limits : InLimits d) (lent : Lent) (answer : Planned) (D
   abbrev r : Repair
   r = D .repair
 
-  F : Repaired mostEdges (buildGraph d) (d .settings) (D .repair)
+  pub F : Repaired mostEdges (buildGraph d) (d .settings) (D .repair)
   unfolding repairOf
   F = fixed mostEdges refusedEdges (buildGraph d) (d .settings) (built-inside d) (D .repair) (D .repairs)
 
-  near : (v : ℕ) → v < length (buildGraph d .nodes) → Reach (buildGraph d .edges) 0 v
+  pub near : (v : ℕ) → v < length (buildGraph d .nodes) → Reach (buildGraph d .edges) 0 v
   near = all-reached (length (buildGraph d .nodes)) (buildGraph d .edges) (D .reached)
 
   line-is : lineFor (buildGraph d) (d .settings) r ≡ line d r
@@ -67,7 +67,7 @@ module _ (d : Drawing) (limits : InLimits d) (lent : Lent) (answer : Planned) (D
     | inr e ↦ omega (arith, line-few d r F near, ap length e, counted-few d (limits .counts) .edges)
   ]
 
-  written : Written (line d r) (lent .output) (inFront (lineRecord (line d r)) (lent .output))
+  pub written : Written (line d r) (lent .output) (inFront (lineRecord (line d r)) (lent .output))
   written = record {
     on-grid = on-grid;
     room = omega (arith, record-length (line d r), D .room, ap length line-is);
@@ -117,7 +117,7 @@ module _ (d : Drawing) (limits : InLimits d) (lent : Lent) (answer : Planned) (D
     ends = ends;
   }
 
-  output-is : planDrawing d lent .output ≡ inFront (lineRecord (line d r)) (lent .output)
+  pub output-is : planDrawing d lent .output ≡ inFront (lineRecord (line d r)) (lent .output)
   output-is = ap (λ (o : Outcome). o .output) (drawing-graph d lent ∙ D .is) ∙ ap (λ (l : List Point). inFront (lineRecord l) (lent .output)) line-is
 
   pub planned-demand3 : Demand3 d (lent .output) (planDrawing d lent .output)
@@ -129,7 +129,7 @@ unfolding planDrawing
 drawing-demand3 d limits lent answer h = planned-demand3 d limits lent answer (drawn (buildGraph d) (d .settings) lent answer h)
 
 -- and of every file that is.
-file-limits : (file : List ℕ) → verdict (readConditions file) ≡ accepted → InLimits (drawingIn file)
+pub file-limits : (file : List ℕ) → verdict (readConditions file) ≡ accepted → InLimits (drawingIn file)
 unfolding drawingIn
 file-limits file h = in-limits file (accepted-passes file h)
 

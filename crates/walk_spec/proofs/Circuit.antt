@@ -1,25 +1,31 @@
 -- The circuit of an even connected graph: it comes back to its start, and has every edge once.
-use mathlib.Core.Path.{_≡_, refl, sym, ap, _∙_}
+use mathlib.Core.Path.{_≡_, refl, sym, ap, _∙_, subst}
 use mathlib.Core.Logic.{inl, inr}
-use mathlib.Core.List.{List, [], _∷_}
-use mathlib.Core.Bool.{true, false}
-use Prim.Native.Nat.{ℕ, suc, _+_, _*_, _%_, _≤_, _<_}
+use mathlib.Core.List.{List, [], _∷_, map}
+use mathlib.Core.Bool.{true, false, true≢false}
+use Prim.Native.Nat.{ℕ, suc, _+_, _*_, _%_, _<_}
 use native.Mathlib.Nat.{zero-add, not-suc-le-zero}
 use native.Mathlib.Decide.{ℕ-discrete}
 use native.Mathlib.Omega.{arith}
-use lib.ListN.{length, replicate, getD-replicate}
+use lib.ListN.{length, set, replicate, getD-replicate}
 use Rattle.lists.proofs.Members.{all-in, all-map}
 use Rattle.graph_spec.specs.Graph.{Edge}
 use Rattle.graph_spec.specs.Odd.{hit, degree}
-use Rattle.graph_spec.specs.Count.{sumOver, stepSum, lineSum, lastFrom, joint, joining}
+use Rattle.graph_spec.specs.Count.{sumOver}
 use Rattle.graph_spec.specs.Ways.{Joins, Reach, here, on}
 use Rattle.lists.specs.Members.{In}
-use Rattle.graph_spec.proofs.Sums.{hit-same, hit-other, joins-hit, joins-joint, degree-sum}
+use Rattle.graph_spec.proofs.Sums.{hit-same, hit-other, joins-hit, degree-sum}
 use Rattle.graph_spec.proofs.EdgesAt.{edgeAt, edgeAt-in, number-of}
-use Rattle.walk_spec.specs.Walk.{start, Entry, circuit, nodesOf}
-use Rattle.walk_spec.proofs.Free.{Weight, allSum, freeSum, isFree, freeSum-use, freeSum-none, freeSum-all, allSum-ends}
+use Rattle.walk_spec.specs.EulerLine.{Step, Along, Leads, times}
+use Rattle.walk_spec.specs.Walk.{By, start, Entry, circuit, nodesOf}
+use Rattle.walk_spec.proofs.EulerLine.{nodesTo}
+use Rattle.walk_spec.proofs.Free.{Weight, allSum, freeSum, isFree, freeSum-use, freeSum-none, freeSum-all, allSum-ends, used-set}
 use Rattle.walk_spec.proofs.Next.{atNode}
 use Rattle.walk_spec.proofs.Trail.{byWeight, bySum, Trail, Done, Walking, Walked, run}
+
+-- 1 at the edge j
+abbrev pub isNumber : ℕ → Weight
+isNumber j i e = hit i j
 
 pub record Circuit (es : List Edge) (s : ℕ) (o : List Entry) : Type 0 where
   pub first : Entry
@@ -28,19 +34,17 @@ pub record Circuit (es : List Edge) (s : ℕ) (o : List Entry) : Type 0 where
   pub begins : first .node ≡ s
   pub by-start : first .by ≡ start
   pub trail : Trail es s first rest
-  -- whatever is counted, the entries count what the edges do
-  pub each : (g : Weight) → bySum es g rest ≡ allSum g 0 es
+  pub once : (j : ℕ) → j < length es → bySum es (isNumber j) rest ≡ 1
 
 -- ---- the walk has every edge, where all can be reached
 
--- 1 at the edge j
-abbrev pub isNumber : ℕ → Weight
-isNumber j i e = hit i j
-
--- an edge counts among all
-pub allSum-ge : (g : Weight) (es : List Edge) (j : ℕ) → j < length es → g j (edgeAt es j) ≤ allSum g 0 es
-allSum-ge g es j l =
-    omega (arith, freeSum-all g 0 es, rw zero-add at (freeSum-use g 0 es (replicate (length es) false) j l (getD-replicate (length es) j false true l)))
+-- among all edges the edge j stands once
+number-once : (es : List Edge) (j : ℕ) → j < length es → allSum (isNumber j) 0 es ≡ 1
+number-once es j l =
+    let free = replicate (length es) false in
+    let others : freeSum (isNumber j) 0 es (set free j true) ≡ 0 =
+    freeSum-none (isNumber j) 0 es (set free j true) (λ k m f. rw zero-add (hit-other k j (λ e. true≢false (sym (used-set free j) ∙ rw e at f)))) in
+    omega (arith, freeSum-all (isNumber j) 0 es, rw zero-add at (freeSum-use (isNumber j) 0 es free j l (getD-replicate (length es) j false true l)), hit-same j, others)
 
 module _ (es : List Edge) (s : ℕ) (o : List Entry) (w : Walked es s o) where
   done-at : (ts : List Entry) (v : ℕ) → Done es (w .used) ts → In v (nodesOf ts) → freeSum (atNode v) 0 es (w .used) ≡ 0
@@ -55,7 +59,7 @@ module _ (es : List Edge) (s : ℕ) (o : List Entry) (w : Walked es s o) where
   among j l n =
       let z : freeSum (isNumber j) 0 es (w .used) ≡ 0 =
       freeSum-none (isNumber j) 0 es (w .used) (λ k m f. rw zero-add (hit-other k j (λ e. n (rw (← e) f)))) in
-      omega (arith, w .each (isNumber j), allSum-ge (isNumber j) es j l, hit-same j)
+      omega (arith, w .each (isNumber j), number-once es j l)
 
   -- so both its ends are visited
   ends-visited : (t : Entry) (ts : List Entry) (j u v : ℕ) → Trail es s t ts → 0 < bySum es (isNumber j) ts → Joins (edgeAt es j) u v → In v (nodesOf (t ∷ ts))
@@ -114,41 +118,34 @@ circuit-is es s even reached =
       begins = w .begins;
       by-start = w .by-start;
       trail = w .trail;
-      each = λ g. omega (arith, w .each g, all-used es s (circuit es s) w reached g);
+      once = λ j l. omega (arith, w .each (isNumber j), all-used es s (circuit es s) w reached (isNumber j), number-once es j l);
     }
 
--- ---- sums along a trail
+-- ---- its steps
 
--- where a step along an edge counts what the edge does
-pub trail-sum : (es : List Edge) (f : ℕ → ℕ → ℕ) (h : Edge → ℕ) → ((e : Edge) (u v : ℕ) → Joins e u v → f u v ≡ h e)
-    → (s : ℕ) (t : Entry) (ts : List Entry) → Trail es s t ts → stepSum f (t .node) (nodesOf ts) ≡ bySum es (λ (i : ℕ) (e : Edge). h e) ts
-unfolding stepSum sumOver
-trail-sum es f h agree s t [] q = refl
-trail-sum es f h agree s t (x ∷ ts) q =
-    omega (arith, trail-sum es f h agree s x ts (q .1), agree (edgeAt es (q .0 .number)) (t .node) (x .node) (q .0 .joins), ap (byWeight es (λ (i : ℕ) (e : Edge). h e)) (q .0 .by-is))
+abbrev numberOf : By → ℕ
+numberOf start = 0
+numberOf (By.edge i) = i
 
-pub trail-last : (es : List Edge) (s : ℕ) (t : Entry) (ts : List Entry) → Trail es s t ts → lastFrom (t .node) (nodesOf ts) ≡ s
-unfolding lastFrom
-trail-last es s t [] q = q
-trail-last es s t (x ∷ ts) q = trail-last es s x ts (q .1)
+abbrev pub stepOf : Entry → Step
+stepOf t = record { number = numberOf (t .by); to = t .node }
 
-stepSum-count : (x : ℕ) (xs : List ℕ) → stepSum (λ (a b : ℕ). 1) x xs ≡ length xs
-unfolding stepSum
-stepSum-count x [] = refl
-stepSum-count x (y ∷ ys) = omega (arith, stepSum-count y ys)
+-- entries as steps: each goes along the edge that its node was entered by
+abbrev pub stepsOf : List Entry → List Step
+stepsOf ts = map stepOf ts
 
-module _ (es : List Edge) (s : ℕ) (o : List Entry) (c : Circuit es s o) where
-  pub rest-sum : (f : ℕ → ℕ → ℕ) (h : Edge → ℕ) → ((e : Edge) (u v : ℕ) → Joins e u v → f u v ≡ h e) → stepSum f (c .first .node) (nodesOf (c .rest)) ≡ sumOver h es
-  rest-sum f h agree = trail-sum es f h agree s (c .first) (c .rest) (c .trail) ∙ c .each (λ (i : ℕ) (e : Edge). h e) ∙ allSum-ends h 0 es
+pub stepsOf-nodes : (ts : List Entry) → nodesTo (stepsOf ts) ≡ nodesOf ts
+stepsOf-nodes [] = refl
+stepsOf-nodes (t ∷ ts) = ap (λ (l : List ℕ). t .node ∷ l) (stepsOf-nodes ts)
 
-  pub rest-count : length (nodesOf (c .rest)) ≡ length es
-  rest-count = sym (stepSum-count (c .first .node) (nodesOf (c .rest))) ∙ trail-sum es (λ (a b : ℕ). 1) (λ (e : Edge). 1) (λ e u v j. refl) s (c .first) (c .rest) (c .trail)
-      ∙ c .each (λ (i : ℕ) (e : Edge). 1) ∙ count-edges es 0
+pub trail-leads : (es : List Edge) (s : ℕ) (t : Entry) (ts : List Entry) → Trail es s t ts → Leads es (t .node) (stepsOf ts) s
+trail-leads es s t [] q = q
+trail-leads es s t (x ∷ ts) q =
+    let e : q .0 .number ≡ numberOf (x .by) = sym (ap numberOf (q .0 .by-is)) in
+    (subst (λ (i : ℕ). Along es (t .node) (record { number = i; to = x .node })) e (record { isEdge = q .0 .isEdge; joins = q .0 .joins }), trail-leads es s x ts (q .1))
 
-  -- as many steps between u and v as edges
-  pub circuit-steps : (u v : ℕ) → lineSum (joint u v) (nodesOf o) ≡ joining u v es
-  unfolding lineSum
-  circuit-steps u v = rw (c .is) (rest-sum (joint u v) (λ (e : Edge). joint u v (e .a) (e .b)) (joins-joint u v))
-
-  pub circuit-count : length (nodesOf o) ≡ suc (length es)
-  circuit-count = ap (λ (ts : List Entry). length (nodesOf ts)) (c .is) ∙ ap suc rest-count
+pub trail-times : (es : List Edge) (s : ℕ) (t : Entry) (ts : List Entry) (i : ℕ) → Trail es s t ts → times i (stepsOf ts) ≡ bySum es (isNumber i) ts
+unfolding sumOver
+trail-times es s t [] i q = refl
+trail-times es s t (x ∷ ts) i q =
+    omega (arith, trail-times es s x ts i (q .1), ap (λ (b : By). hit (numberOf b) i) (q .0 .by-is), ap (byWeight es (isNumber i)) (q .0 .by-is))

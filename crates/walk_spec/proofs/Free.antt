@@ -29,7 +29,13 @@ freeSum g i (e ∷ es) (true ∷ used) = freeSum g (suc i) es used
 abbrev pub isFree : List Bool → ℕ → Type 0
 isFree used j = getD used j true ≡ false
 
--- an edge that is used now leaves the sum
+-- an edge that is used now is not free
+pub used-set : (used : List Bool) (j : ℕ) → getD (set used j true) j true ≡ true
+used-set [] j = refl
+used-set (b ∷ used) zero = refl
+used-set (b ∷ used) (suc j) = used-set used j
+
+-- and leaves the sum
 pub freeSum-use : (g : Weight) (i : ℕ) (es : List Edge) (used : List Bool) (j : ℕ) → j < length es → isFree used j
     → freeSum g i es used ≡ g (i + j) (edgeAt es j) + freeSum g i es (set used j true)
 unfolding freeSum

@@ -2,43 +2,24 @@
 use mathlib.Core.Path.{_≡_, refl, sym, ap, _∙_, subst}
 use mathlib.Core.List.{List, [], _∷_, _++_, map-append, reverse, reverse-cons, append-nil, append-assoc}
 use mathlib.Core.Bool.{Bool, true, false, true≢false}
-use Prim.Native.Nat.{ℕ, suc, _+_, _<_}
+use Prim.Native.Nat.{ℕ, _+_, _<_}
 use native.Mathlib.Nat.{not-suc-le-zero}
 use native.Mathlib.Omega.{arith}
 use lib.ListN.{length, drop, length-append}
 use lib.Seq.{getD-append-seam}
 use borrow.Author.Tests.{eqb-true}
-use Rattle.lists.proofs.Members.{all-append, all-front, all-back}
 use Rattle.graph_spec.specs.Graph.{Edge}
-use Rattle.graph_spec.specs.Odd.{one}
-use Rattle.graph_spec.specs.Count.{sumOver, stepSum, lineSum, lastFrom, joint, joining}
-use Rattle.graph_spec.specs.Ways.{Inside, Joins}
-use Rattle.lists.specs.Members.{All}
-use Rattle.graph_spec.proofs.Sums.{hit-same, joins-joint, sumOver-append}
-use Rattle.graph_spec.proofs.Connected.{joins-inside}
-use Rattle.graph_spec.proofs.Lines.{stepSum-append, lastFrom-append}
-use Rattle.graph_spec.proofs.EdgesAt.{edgeAt, edgeAt-in}
+use Rattle.graph_spec.specs.Odd.{one, hit}
+use Rattle.graph_spec.specs.Count.{sumOver}
+use Rattle.graph_spec.specs.Ways.{Joins}
+use Rattle.graph_spec.proofs.Sums.{hit-same, hit-other, sumOver-append}
+use Rattle.graph_spec.proofs.EdgesAt.{edgeAt}
+use Rattle.walk_spec.specs.EulerLine.{Step, Leads, times}
 use Rattle.walk_spec.specs.Walk.{By, start, Entry, nodesOf}
 use Rattle.walk_spec.specs.VirtualStep.{isBy, cutAt}
-use Rattle.walk_spec.proofs.Trail.{byWeight, bySum, Entered, Trail}
-use Rattle.walk_spec.proofs.Circuit.{Circuit, isNumber, allSum-ge, rest-sum, rest-count, trail-last}
-
--- ---- lines of nodes
-
-module _ {A : Type 0} (x : A) (front : List A) (y : A) (back : List A) (closed : lastFrom x (front ++ (y ∷ back)) ≡ x) where
-  -- the way back to the start
-  comes-back : lastFrom y back ≡ x
-  unfolding lastFrom
-  comes-back = sym (lastFrom-append x front (y ∷ back)) ∙ closed
-
-  -- the line that goes on from y, and through the start, loses the step to y
-  pub cut-sum : (w : A → A → ℕ) → stepSum w y (back ++ front) + w (lastFrom x front) y ≡ stepSum w x (front ++ (y ∷ back))
-  unfolding stepSum
-  cut-sum w = omega (arith, stepSum-append w y back front, stepSum-append w x front (y ∷ back), ap (λ (a : A). stepSum w a front) comes-back)
-
-  -- and ends where that step began
-  pub cut-last : lastFrom y (back ++ front) ≡ lastFrom x front
-  cut-last = lastFrom-append y back front ∙ ap (λ (a : A). lastFrom a front) comes-back
+use Rattle.walk_spec.proofs.EulerLine.{nodesTo, leads-append, leads-split, leads-without}
+use Rattle.walk_spec.proofs.Trail.{byWeight, bySum}
+use Rattle.walk_spec.proofs.Circuit.{Circuit, isNumber, stepOf, stepsOf, stepsOf-nodes, trail-leads, trail-times}
 
 -- ---- what `cutAt` finds
 
@@ -84,90 +65,85 @@ cut-finds es i before (t ∷ ts) h = go (isBy i (t .by)) refl (cut-finds es i (t
           cut = cutAt-later i before t ts e ∙ f .cut ∙ rw (reverse-cons t before, append-assoc);
         }
 
--- ---- the step of a trail
-
--- t was entered from the node before it
-trail-at : (es : List Edge) (s : ℕ) (x : Entry) (front : List Entry) (t : Entry) (back : List Entry) → Trail es s x (front ++ (t ∷ back)) → Entered es (lastFrom (x .node) (nodesOf front)) t
-unfolding lastFrom
-trail-at es s x [] t back q = q .0
-trail-at es s x (y ∷ front) t back q = trail-at es s y front t back (q .1)
-
--- the nodes after the first are ends of edges
-pub trail-within : (n : ℕ) (es : List Edge) → Inside n es → (s : ℕ) (t : Entry) (ts : List Entry) → Trail es s t ts → All (λ (v : ℕ). v < n) (nodesOf ts)
-trail-within n es h s t [] q = tt
-trail-within n es h s t (x ∷ ts) q =
-    let e = edgeAt es (q .0 .number) in
-    (joins-inside n es h e (t .node) (x .node) (edgeAt-in es (q .0 .number) (q .0 .isEdge)) (q .0 .joins), trail-within n es h s x ts (q .1))
-
 -- ---- the cut of a circuit that goes along x, the last edge
 
+-- a line that goes once along every edge but x, from one end of x to the other
 pub record CutLine (es : List Edge) (x : Edge) (line : List ℕ) : Type 0 where
   pub first : ℕ
-  pub rest : List ℕ
-  pub is : line ≡ first ∷ rest
-  pub joins : Joins x (lastFrom first rest) first
-  pub steps : (u v : ℕ) → lineSum (joint u v) line ≡ joining u v es
-  pub count : length line ≡ suc (length es)
-  pub within : (n : ℕ) → Inside n (es ++ (x ∷ [])) → All (λ (v : ℕ). v < n) line
+  pub steps : List Step
+  pub last : ℕ
+  pub is : line ≡ first ∷ nodesTo steps
+  pub leads : Leads es first steps last
+  pub once : (i : ℕ) → i < length es → times i steps ≡ 1
+  pub joins : Joins x last first
 
 module _ (es : List Edge) (x : Edge) (s : ℕ) (o : List Entry) (c : Circuit (es ++ (x ∷ [])) s o) (f : Found (length es) (c .first ∷ []) (c .rest)) where
-  cut-is : nodesOf (cutAt (length es) [] o) ≡ f .step .node ∷ (nodesOf (f .back) ++ nodesOf (f .front))
+  abbrev more : List Edge
+  more = es ++ (x ∷ [])
+
+  abbrev front : List Step
+  front = stepsOf (f .front)
+
+  abbrev step : Step
+  step = stepOf (f .step)
+
+  abbrev back : List Step
+  back = stepsOf (f .back)
+
+  rest-is : stepsOf (c .rest) ≡ front ++ (step ∷ back)
+  rest-is = ap stepsOf (f .is) ∙ map-append stepOf (f .front) (f .step ∷ f .back)
+
+  -- the circuit is closed, so from behind the step by x it leads to before it
+  parts : (v : ℕ) × Leads more s front v × Leads more v (step ∷ back) s
+  parts =
+      leads-split more s s front (step ∷ back)
+      (subst (λ (u : ℕ). Leads more u (front ++ (step ∷ back)) s) (c .begins) (rw rest-is at (trail-leads more s (c .first) (c .rest) (c .trail))))
+
+  number-is : step .number ≡ length es
+  number-is = rw (f .by-is)
+
+  -- each edge of all once, and so once in what is left if it is not x
+  counted : (i : ℕ) → i < length more → times i (back ++ front) + hit (step .number) i ≡ 1
+  unfolding sumOver
+  counted i l =
+      let g : Step → ℕ = λ t. hit (t .number) i in
+      omega (
+        arith,
+        c .once i l,
+        trail-times more s (c .first) (c .rest) i (c .trail),
+        ap (times i) rest-is,
+        sumOver-append g front (step ∷ back),
+        sumOver-append g back front,
+      )
+
+  last-edge : length es < length more
+  last-edge = rw (length-append es (x ∷ [])) (omega arith)
+
+  left-once : (i : ℕ) → i < length es → times i (back ++ front) ≡ 1
+  left-once i l = omega (arith, counted i (omega (arith, last-edge)), hit-other (step .number) i (λ e. omega (arith, number-is)))
+
+  left-leads : Leads es (step .to) (back ++ front) (parts .0)
+  left-leads =
+      leads-without es x (step .to) (parts .0) (back ++ front) (leads-append more (step .to) s (parts .0) back front (parts .2 .1) (parts .1))
+      (omega (arith, counted (length es) last-edge, ap (λ (k : ℕ). hit k (length es)) number-is, hit-same (length es)))
+
+  -- the step goes along x
+  step-joins : Joins x (parts .0) (step .to)
+  step-joins = subst (λ (e : Edge). Joins e (parts .0) (step .to)) (ap (edgeAt more) number-is ∙ getD-append-seam es x [] _) (parts .2 .0 .joins)
+
+  cut-is : nodesOf (cutAt (length es) [] o) ≡ step .to ∷ nodesTo (back ++ front)
   unfolding isBy
   cut-is =
       ap (λ (ts : List Entry). nodesOf (cutAt (length es) [] ts)) (c .is)
       ∙ ap nodesOf (cutAt-later (length es) [] (c .first) (c .rest) (rw (c .by-start)) ∙ f .cut)
-      ∙ map-append (λ (t : Entry). t .node) (f .step ∷ f .back) (f .front)
-
-  rest-is : nodesOf (c .rest) ≡ nodesOf (f .front) ++ (f .step .node ∷ nodesOf (f .back))
-  rest-is = ap nodesOf (f .is) ∙ map-append (λ (t : Entry). t .node) (f .front) (f .step ∷ f .back)
-
-  -- the step goes along x, from the node before
-  found-joins : Joins x (lastFrom (c .first .node) (nodesOf (f .front))) (f .step .node)
-  found-joins =
-      let k = trail-at (es ++ (x ∷ [])) s (c .first) (f .front) (f .step) (f .back) (rw (f .is) at (c .trail)) in
-      let n = k .number in
-      let e : n ≡ length es = cc (k .by-is, f .by-is) in
-      subst (λ (y : Edge). Joins y (lastFrom (c .first .node) (nodesOf (f .front))) (f .step .node)) (ap (edgeAt (es ++ (x ∷ []))) e ∙ getD-append-seam es x [] _) (k .joins)
-
-  closed : lastFrom (c .first .node) (nodesOf (f .front) ++ (f .step .node ∷ nodesOf (f .back))) ≡ c .first .node
-  closed = ap (lastFrom (c .first .node)) (sym rest-is) ∙ trail-last (es ++ (x ∷ [])) s (c .first) (c .rest) (c .trail) ∙ sym (c .begins)
-
-  cut-steps : (u v : ℕ) → lineSum (joint u v) (f .step .node ∷ (nodesOf (f .back) ++ nodesOf (f .front))) ≡ joining u v es
-  unfolding lineSum sumOver
-  cut-steps u v = omega (
-    arith,
-    cut-sum (c .first .node) (nodesOf (f .front)) (f .step .node) (nodesOf (f .back)) closed (joint u v),
-    rw rest-is at (rest-sum (es ++ (x ∷ [])) s o c (joint u v) (λ (e : Edge). joint u v (e .a) (e .b)) (joins-joint u v)),
-    sumOver-append (λ (e : Edge). joint u v (e .a) (e .b)) es (x ∷ []),
-    joins-joint u v x (lastFrom (c .first .node) (nodesOf (f .front))) (f .step .node) found-joins,
-  )
-
-  cut-count : length (f .step .node ∷ (nodesOf (f .back) ++ nodesOf (f .front))) ≡ suc (length es)
-  cut-count =
-      omega (arith, length-append (nodesOf (f .back)) (nodesOf (f .front)), simp length-append at (ap length rest-is), simp length-append at (rest-count (es ++ (x ∷ [])) s o c))
-
-  cut-within : (n : ℕ) → Inside n (es ++ (x ∷ [])) → All (λ (v : ℕ). v < n) (f .step .node ∷ (nodesOf (f .back) ++ nodesOf (f .front)))
-  cut-within n h =
-      let P : ℕ → Type 0 = λ v. v < n in
-      let all = rw rest-is at (trail-within n (es ++ (x ∷ [])) h s (c .first) (c .rest) (c .trail)) in
-      let back = all-back P (nodesOf (f .front)) (f .step .node ∷ nodesOf (f .back)) all in
-      (back .0, all-append P (nodesOf (f .back)) (nodesOf (f .front)) (back .1) (all-front P (nodesOf (f .front)) (f .step .node ∷ nodesOf (f .back)) all))
+      ∙ sym (stepsOf-nodes ((f .step ∷ f .back) ++ f .front))
+      ∙ ap nodesTo (map-append stepOf (f .step ∷ f .back) (f .front))
 
   cut-found : CutLine es x (nodesOf (cutAt (length es) [] o))
-  cut-found = record {
-    first = f .step .node;
-    rest = nodesOf (f .back) ++ nodesOf (f .front);
-    is = cut-is;
-    joins = rw (cut-last (c .first .node) (nodesOf (f .front)) (f .step .node) (nodesOf (f .back)) closed) found-joins;
-    steps = λ u v. ap (lineSum (joint u v)) cut-is ∙ cut-steps u v;
-    count = ap length cut-is ∙ cut-count;
-    within = λ n h. rw cut-is (cut-within n h);
-  }
+  cut-found = record { first = step .to; steps = back ++ front; last = parts .0; is = cut-is; leads = left-leads; once = left-once; joins = step-joins }
 
 -- x is gone along, so its step is found
 pub cut-line : (es : List Edge) (x : Edge) (s : ℕ) (o : List Entry) → Circuit (es ++ (x ∷ [])) s o → CutLine es x (nodesOf (cutAt (length es) [] o))
 cut-line es x s o c =
-    let more = es ++ (x ∷ []) in
-    let i = length es in
-    let l : i < length more = rw (length-append es (x ∷ [])) (omega arith) in
-    cut-found es x s o c (cut-finds more i (c .first ∷ []) (c .rest) (omega (arith, c .each (isNumber i), allSum-ge (isNumber i) more i l, hit-same i)))
+    let l : length es < length (es ++ (x ∷ [])) = rw (length-append es (x ∷ [])) (omega arith) in
+    cut-found es x s o c (cut-finds (es ++ (x ∷ [])) (length es) (c .first ∷ []) (c .rest) (omega (arith, c .once (length es) l)))

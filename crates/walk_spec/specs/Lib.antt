@@ -1,5 +1,7 @@
 -- Which line is drawn through the repaired graph.
--- Hierholzer's walk:
+-- What Hierholzer's theorem promises, a line along every edge once:
+pub mod EulerLine
+-- his walk:
 pub mod Walk
 -- where it starts:
 pub mod Start
