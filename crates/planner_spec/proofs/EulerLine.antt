@@ -1,36 +1,23 @@
 -- The line that is written for a file is an Euler line of the repaired graph: it goes along every edge that the drawing has or repair laid once, by the edge's number.
 use mathlib.Core.Path.{_≡_, refl, sym, ap, _∙_, subst}
-use mathlib.Core.Logic.{_⊎_, inl, inr}
-use mathlib.Core.List.{List, [], _∷_, map}
+use mathlib.Core.Logic.{inl, inr}
+use mathlib.Core.List.{List, [], _∷_}
 use Prim.Native.Nat.{ℕ, _<_}
 use native.Mathlib.Nat.{zero-lt-suc}
 use lib.ListN.{length}
 use Rattle.drawing_spec.specs.Drawing.{Point, Drawing}
 use Rattle.drawing_spec.specs.Accepted.{InLimits}
-use Rattle.graph_spec.specs.Graph.{pointAt, buildGraph}
-use Rattle.repair_spec.specs.Repair.{Repair, repaired}
-use Rattle.walk_spec.specs.EulerLine.{EulerLine}
+use Rattle.graph_spec.specs.Graph.{buildGraph}
+use Rattle.repair_spec.specs.Repair.{Repair}
 use Rattle.walk_spec.specs.Line.{lineOf}
 use Rattle.walk_spec.proofs.Line.{lineOf-euler, lineOf-none}
 use Rattle.planner_spec.specs.LineRecord.{Written}
 use Rattle.planner_spec.specs.Demand3.{Demand3}
-use Rattle.planner_spec.specs.Plan.{Lent, Planned, planned, Outcome, drawingIn, repairOf, planDrawing, plan}
+use Rattle.planner_spec.specs.EulerLine.{EulerWritten}
+use Rattle.planner_spec.specs.Plan.{Lent, Planned, planned, Outcome, drawingIn, planDrawing, plan}
 use Rattle.planner_spec.proofs.Counted.{line, euler-line}
 use Rattle.planner_spec.proofs.Plan.{Drawn, drawn, file-planned}
 use Rattle.planner_spec.proofs.Proved.{F, near, written, output-is, file-limits}
-
--- of the output's bytes before and after the call
-pub record EulerWritten (d : Drawing) (before after : List ℕ) : Type 0 where
-  -- the output is the record of a line, then the bytes that were there
-  pub line : List Point
-  pub written : Written line before after
-  -- the line's points are those of nodes of the drawing's graph
-  pub way : List ℕ
-  pub points : line ≡ map (pointAt (buildGraph d .nodes)) way
-  -- these nodes are an Euler line of the graph with the edges of its repair; or there is no node and no line
-  pub repair : Repair
-  pub repairs : repairOf (buildGraph d) (d .settings) ≡ repaired repair
-  pub euler : EulerLine (length (buildGraph d .nodes)) (repair .edges) way ⊎ ((buildGraph d .nodes ≡ []) × (way ≡ []))
 
 module _ (d : Drawing) (limits : InLimits d) (lent : Lent) (answer : Planned) (D : Drawn (buildGraph d) (d .settings) lent answer) where
   abbrev r : Repair

@@ -7,3 +7,5 @@ pub mod Plan
 pub mod Words
 -- the statement of demand 3:
 pub mod Demand3
+-- that the line written is an Euler line of the repaired graph:
+pub mod EulerLine
