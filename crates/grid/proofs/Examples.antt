@@ -1,9 +1,11 @@
--- Check 7 worked out on patterns at its edges.
-use Prim.Native.Nat.{_+_, _-_, _*_}
+-- Check 7 worked out on patterns at its edges, and what stands for a coordinate that is off the grid.
+use Prim.Native.Nat.{_+_, _-_, _*_, _<_}
 use mathlib.Core.Path.{_≡_, refl}
 use mathlib.Core.List.{[], _∷_, map}
+use mathlib.Core.Bool.{true, false}
+use lib.Dec.{lit<}
 use Rattle.grid.specs.declared.Place.the-variants.{On, Off}
-use Rattle.grid.specs.Grid.{origin, readOnGrid, readPlace}
+use Rattle.grid.specs.Grid.{origin, originOfGrid, nowhere, placeAt, onGrid, readOnGrid, readPlace}
 
 -- 0, 1/1024, -1, 4096 and -4096
 on-the-grid : map readPlace (0 ∷ 0x3F50000000000000 ∷ 0xBFF0000000000000 ∷ 0x40B0000000000000 ∷ 0xC0B0000000000000 ∷ [])
@@ -24,3 +26,13 @@ between-steps = refl
 past-the-grid : map readPlace (0x40B0000040000000 ∷ 0xC0B0000040000000 ∷ 0x7FF0000000000000 ∷ 0x7FF8000000000000 ∷ []) ≡ Off ∷ Off ∷ Off ∷ Off ∷ []
 unfolding readOnGrid
 past-the-grid = refl
+
+-- a place is its own number; what is off the grid is no place of any, down to steps of 1/2048
+as-numbers : map placeAt (On 0 ∷ On 5 ∷ Off ∷ []) ≡ 0 ∷ 5 ∷ nowhere ∷ []
+as-numbers = refl
+
+past-every-grid : 2 * originOfGrid 11 < nowhere
+past-every-grid = lit< tt
+
+tested : map onGrid (On 0 ∷ Off ∷ []) ≡ true ∷ false ∷ []
+tested = refl
