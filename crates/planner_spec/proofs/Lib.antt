@@ -8,4 +8,6 @@ pub mod LineRecord
 pub mod Plan
 pub mod Proved
 pub mod Numbered
+pub mod Refuted
 pub mod Samples
+pub mod WordsExamples
