@@ -9,14 +9,16 @@ use native.Mathlib.Omega.{arith}
 use lib.ListN.{length, getD, replicate}
 use Rattle.drawing_spec.specs.Bytes.{bytes}
 use Rattle.drawing_spec.specs.Drawing.{Point, closing, Drawing}
+use Rattle.drawing_spec.specs.Accepted.{InLimits}
+use Rattle.drawing_spec.specs.Read.{total}
 use Rattle.drawing_spec.proofs.Same.{differ}
 use Rattle.graph_spec.specs.Count.{lineSum, stepsBetween, lastFrom}
 use Rattle.walk_spec.specs.Orient.{lastOf}
 use Rattle.planner_spec.specs.LineRecord.{pointBytes, lineRecord, inFront, lineWritten}
-use Rattle.planner_spec.specs.Plan.{Lent, Planned, planned, plan, drawingIn}
+use Rattle.planner_spec.specs.Plan.{Lent, Planned, planned, planDrawing, plan, drawingIn}
 use Rattle.planner_spec.specs.Words.{piecesBetween, linksBetween, copiesBetween, drawnAt, copiesAt, leftOdd}
 use Rattle.planner_spec.specs.Demand3.{NoneOdd, Ends, Demand3}
-use Rattle.planner_spec.proofs.Proved.{demand3}
+use Rattle.planner_spec.proofs.Proved.{drawing-demand3, demand3}
 use Rattle.planner_spec.proofs.WordsExamples.{at, linkedDot, triangle, triangle-none}
 
 -- ---- of an output for which demand 3 holds
@@ -73,9 +75,25 @@ pub blank-sand : (file : List ℕ) (lent : Lent) (answer : Planned) → plan fil
     → (p q : Point) → piecesBetween p q (drawingIn file) + linksBetween p q (drawingIn file) ≡ 0 → stepsBetween p q (lineWritten (plan file lent .output)) ≡ 0
 blank-sand file lent answer h = blank (demand3 file lent answer h)
 
--- ---- wrong outputs. The linked dot's line is (8, 0) (4, 0) (0, 0) (4, 0) (4, 4): there is one copy, between (0, 0) and (4, 0), and (8, 0) and the dot are left odd.
+-- ---- a right output, for which demand 3 holds: the linked dot has one copy, between (0, 0) and (4, 0), and (8, 0) and the dot are left odd
 
--- whatever the bytes before the call, and those behind the record
+abbrev rightLine : List Point
+rightLine = at 8 0 ∷ at 4 0 ∷ at 0 0 ∷ at 4 0 ∷ at 4 4 ∷ []
+
+dot-in-limits : InLimits (linkedDot 0)
+unfolding total
+dot-in-limits = record {
+  counts = record { lines = omega arith; points = omega arith; links = omega arith };
+  lines-on = (((omega arith, omega arith), ((omega arith, omega arith), tt)), (((omega arith, omega arith), tt), tt));
+  links-on = (((omega arith, omega arith), (omega arith, omega arith)), tt);
+}
+
+right : Demand3 (linkedDot 0) (replicate 88 7) (lineRecord rightLine ++ 7 ∷ 7 ∷ [])
+unfolding planDrawing
+right = drawing-demand3 (linkedDot 0) dot-in-limits (record { floats = 0; bytes = 0; output = replicate 88 7 }) (record { retrace = 0x3f70000000000000; before = 4; after = 2; points = 5 }) refl
+
+-- ---- wrong outputs, whatever the bytes before the call and those behind the record
+
 module _ (before rest : List ℕ) where
   abbrev output : List Point → List ℕ
   output line = lineRecord line ++ rest
@@ -123,7 +141,7 @@ module _ (before rest : List ℕ) where
   ]
 
   -- closing was chosen
-  left-open : Demand3 (linkedDot 1) before (output (at 8 0 ∷ at 4 0 ∷ at 0 0 ∷ at 4 0 ∷ at 4 4 ∷ [])) → ⊥
+  left-open : Demand3 (linkedDot 1) before (output rightLine) → ⊥
   unfolding lineRecord lineWritten lastFrom
   left-open D = differ (at 4 4) (at 8 0) refl (closes-chosen D (at 8 0) (at 4 0 ∷ at 0 0 ∷ at 4 0 ∷ at 4 4 ∷ []) refl refl)
 
@@ -141,12 +159,12 @@ module _ (before rest : List ℕ) where
   ]
 
 -- the right line, and the last byte behind its record, the 88th, changed from 7 to 8
-changed-behind : Demand3 (linkedDot 0) (replicate 88 7) (lineRecord (at 8 0 ∷ at 4 0 ∷ at 0 0 ∷ at 4 0 ∷ at 4 4 ∷ []) ++ 7 ∷ 8 ∷ []) → ⊥
+changed-behind : Demand3 (linkedDot 0) (replicate 88 7) (lineRecord rightLine ++ 7 ∷ 8 ∷ []) → ⊥
 unfolding lineRecord lineWritten
 changed-behind D = let k : _≡_ {A = ℕ} 8 7 = ap (λ (bs : List ℕ). getD bs 87 0) (bytes-are D) in omega arith
 
 -- the right line, in a record of kind 2
-of-kind-2 : (before : List ℕ) → Demand3 (linkedDot 0) before (bytes 4 80 ++ bytes 2 2 ++ pointBytes (at 8 0 ∷ at 4 0 ∷ at 0 0 ∷ at 4 0 ∷ at 4 4 ∷ [])) → ⊥
+of-kind-2 : (before : List ℕ) → Demand3 (linkedDot 0) before (bytes 4 80 ++ bytes 2 2 ++ pointBytes rightLine) → ⊥
 unfolding lineRecord lineWritten
 of-kind-2 before D = let k : _≡_ {A = ℕ} 2 4 = ap (λ (bs : List ℕ). getD bs 4 0) (bytes-are D) in omega arith
 

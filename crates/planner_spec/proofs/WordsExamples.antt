@@ -1,11 +1,14 @@
 -- The words of demand 3 worked out on small drawings, with what a person counts there. A count between two points is given as the whole table of a list of points, a row for
 -- each of them: so in either order, and of a point with itself. Some lists have a point that is none of the drawing.
-use Prim.Native.Nat.{ℕ, _+_}
+use Prim.Native.Nat.{ℕ, _+_, _-_}
 use mathlib.Core.Path.{_≡_, refl}
 use mathlib.Core.List.{List, [], _∷_, map}
 use mathlib.Core.Bool.{Bool, true, false, true≢false}
 use Rattle.drawing_spec.specs.Drawing.{Point, same, Link, Drawing}
+use Rattle.graph_spec.specs.Graph.{buildGraph}
 use Rattle.graph_spec.specs.Odd.{one, isOdd}
+use Rattle.graph_spec.specs.Count.{stepsBetween}
+use Rattle.planner_spec.specs.Plan.{lineFor}
 use Rattle.planner_spec.specs.Words.{piecesBetween, linksBetween, retracesIn, copiesBetween, drawnAt, copiesAt, odd, leftOdd}
 use Rattle.planner_spec.specs.Demand3.{NoneOdd}
 
@@ -149,10 +152,18 @@ bar-copies-open : table copiesBetween (at 4 4 ∷ at 5 4 ∷ at 4 8 ∷ at 5 0 �
 unfolding copiesBetween
 bar-copies-open = refl
 
--- Copies are counted from the retraces and from no line: two dashes apart, closing, have a copy each, though no line goes over both.
-dash-copies : table copiesBetween (at 0 0 ∷ at 1 0 ∷ at 5 0 ∷ at 6 0 ∷ []) (drawing 0 1 ((at 0 0 ∷ at 1 0 ∷ []) ∷ (at 5 0 ∷ at 6 0 ∷ []) ∷ []) []) ≡
-    (0 ∷ 1 ∷ 0 ∷ 0 ∷ []) ∷ (1 ∷ 0 ∷ 0 ∷ 0 ∷ []) ∷ (0 ∷ 0 ∷ 0 ∷ 1 ∷ []) ∷ (0 ∷ 0 ∷ 1 ∷ 0 ∷ []) ∷ []
-unfolding copiesBetween
+-- Copies are counted from the retraces, and not as a line's steps less the pieces: two dashes apart, closing, have a copy each, and a line goes over one of them alone.
+dashes : Drawing
+dashes = drawing 0 1 ((at 0 0 ∷ at 1 0 ∷ []) ∷ (at 5 0 ∷ at 6 0 ∷ []) ∷ []) []
+
+abbrev stepsLessPieces : Point → Point → Drawing → ℕ
+stepsLessPieces p q d = stepsBetween p q (lineFor (buildGraph d) (d .settings)) - (piecesBetween p q d + linksBetween p q d)
+
+dash-copies : map (λ (count : Point → Point → Drawing → ℕ). table count (at 0 0 ∷ at 1 0 ∷ at 5 0 ∷ at 6 0 ∷ []) dashes) (copiesBetween ∷ stepsLessPieces ∷ []) ≡
+    ((0 ∷ 1 ∷ 0 ∷ 0 ∷ []) ∷ (1 ∷ 0 ∷ 0 ∷ 0 ∷ []) ∷ (0 ∷ 0 ∷ 0 ∷ 1 ∷ []) ∷ (0 ∷ 0 ∷ 1 ∷ 0 ∷ []) ∷ [])
+    ∷ ((0 ∷ 1 ∷ 0 ∷ 0 ∷ []) ∷ (1 ∷ 0 ∷ 0 ∷ 0 ∷ []) ∷ (0 ∷ 0 ∷ 0 ∷ 0 ∷ []) ∷ (0 ∷ 0 ∷ 0 ∷ 0 ∷ []) ∷ [])
+    ∷ []
+unfolding dashes copiesBetween piecesBetween linksBetween buildGraph lineFor
 dash-copies = refl
 
 -- ---- what ends at a point
