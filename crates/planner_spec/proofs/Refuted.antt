@@ -51,6 +51,10 @@ module _ {d : Drawing} {before after : List ℕ} (D : Demand3 d before after) wh
     ends-of : Ends d first rest
     ends-of = D .ends first rest (line-read ∙ is)
 
+    -- no point is odd, so it is closed
+    closes-even : NoneOdd d → lastOf first rest ≡ first
+    closes-even none = ends-of .closed .1 (inr none)
+
     -- closed, so it was to be
     closes : lastOf first rest ≡ first → (closing (d .settings) ≡ true) ⊎ NoneOdd d
     closes = ends-of .closed .0
@@ -58,10 +62,6 @@ module _ {d : Drawing} {before after : List ℕ} (D : Demand3 d before after) wh
     -- closing was chosen, so it is closed
     closes-chosen : closing (d .settings) ≡ true → lastOf first rest ≡ first
     closes-chosen c = ends-of .closed .1 (inl c)
-
-    -- no point is odd, so it is closed
-    closes-even : NoneOdd d → lastOf first rest ≡ first
-    closes-even none = ends-of .closed .1 (inr none)
 
     -- open, so it starts and ends at points that repair left odd, and at each of these
     ends-left : (lastOf first rest ≡ first → ⊥) → (leftOdd first d ≡ true) × (leftOdd (lastOf first rest) d ≡ true)

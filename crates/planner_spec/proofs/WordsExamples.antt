@@ -111,16 +111,20 @@ twice-pieces = refl
 
 -- ---- retraces and copies
 
+copyTable : List Point → Drawing → List (List ℕ)
+unfolding copiesBetween
+copyTable ps d = table copiesBetween ps d
+
 -- one segment: its two ends are odd; they stay so, or are joined where closing was chosen
 segment-retraces : map retracesIn (segment 0 ∷ segment 1 ∷ []) ≡ [] ∷ ((at 0 0 ∷ at 3 4 ∷ []) ∷ []) ∷ []
 unfolding retracesIn
 segment-retraces = refl
 
-segment-copies : map (table copiesBetween (at 0 0 ∷ at 3 4 ∷ at 1 1 ∷ [])) (segment 0 ∷ segment 1 ∷ []) ≡
+segment-copies : map (copyTable (at 0 0 ∷ at 3 4 ∷ at 1 1 ∷ [])) (segment 0 ∷ segment 1 ∷ []) ≡
     ((0 ∷ 0 ∷ 0 ∷ []) ∷ (0 ∷ 0 ∷ 0 ∷ []) ∷ (0 ∷ 0 ∷ 0 ∷ []) ∷ [])
     ∷ ((0 ∷ 1 ∷ 0 ∷ []) ∷ (1 ∷ 0 ∷ 0 ∷ []) ∷ (0 ∷ 0 ∷ 0 ∷ []) ∷ [])
     ∷ []
-unfolding copiesBetween
+unfolding copyTable
 segment-copies = refl
 
 -- The cross: the nearest two tips, (0, 4) and (4, 0), are paired over the middle; closing joins the other two as well. Optimal pairs the ends of the upright.
@@ -133,9 +137,9 @@ unfolding retracesIn
 cross-retraces = refl
 
 -- one for each edge of each retrace, so none from tip to tip
-cross-copies : table copiesBetween (at 4 4 ∷ at 0 4 ∷ at 8 4 ∷ at 4 0 ∷ at 4 8 ∷ []) (cross 0 0) ≡
+cross-copies : copyTable (at 4 4 ∷ at 0 4 ∷ at 8 4 ∷ at 4 0 ∷ at 4 8 ∷ []) (cross 0 0) ≡
     (0 ∷ 1 ∷ 0 ∷ 1 ∷ 0 ∷ []) ∷ (1 ∷ 0 ∷ 0 ∷ 0 ∷ 0 ∷ []) ∷ (0 ∷ 0 ∷ 0 ∷ 0 ∷ 0 ∷ []) ∷ (1 ∷ 0 ∷ 0 ∷ 0 ∷ 0 ∷ []) ∷ (0 ∷ 0 ∷ 0 ∷ 0 ∷ 0 ∷ []) ∷ []
-unfolding copiesBetween
+unfolding copyTable
 cross-copies = refl
 
 -- The H, closing: all six points are odd, and every pair of them is joined over the bar. There are three copies of it, two of them made when there was a copy already.
@@ -143,13 +147,13 @@ bar-retraces : retracesIn (narrowH 1) ≡ (at 4 0 ∷ at 4 4 ∷ at 5 4 ∷ at 5
 unfolding retracesIn
 bar-retraces = refl
 
-bar-copies : table copiesBetween (at 4 4 ∷ at 5 4 ∷ at 4 8 ∷ at 5 0 ∷ []) (narrowH 1) ≡ (0 ∷ 3 ∷ 1 ∷ 0 ∷ []) ∷ (3 ∷ 0 ∷ 0 ∷ 1 ∷ []) ∷ (1 ∷ 0 ∷ 0 ∷ 0 ∷ []) ∷ (0 ∷ 1 ∷ 0 ∷ 0 ∷ []) ∷ []
-unfolding copiesBetween
+bar-copies : copyTable (at 4 4 ∷ at 5 4 ∷ at 4 8 ∷ at 5 0 ∷ []) (narrowH 1) ≡ (0 ∷ 3 ∷ 1 ∷ 0 ∷ []) ∷ (3 ∷ 0 ∷ 0 ∷ 1 ∷ []) ∷ (1 ∷ 0 ∷ 0 ∷ 0 ∷ []) ∷ (0 ∷ 1 ∷ 0 ∷ 0 ∷ []) ∷ []
+unfolding copyTable
 bar-copies = refl
 
 -- not closing: the third pair is left as it is
-bar-copies-open : table copiesBetween (at 4 4 ∷ at 5 4 ∷ at 4 8 ∷ at 5 0 ∷ []) (narrowH 0) ≡ (0 ∷ 2 ∷ 0 ∷ 0 ∷ []) ∷ (2 ∷ 0 ∷ 0 ∷ 1 ∷ []) ∷ (0 ∷ 0 ∷ 0 ∷ 0 ∷ []) ∷ (0 ∷ 1 ∷ 0 ∷ 0 ∷ []) ∷ []
-unfolding copiesBetween
+bar-copies-open : copyTable (at 4 4 ∷ at 5 4 ∷ at 4 8 ∷ at 5 0 ∷ []) (narrowH 0) ≡ (0 ∷ 2 ∷ 0 ∷ 0 ∷ []) ∷ (2 ∷ 0 ∷ 0 ∷ 1 ∷ []) ∷ (0 ∷ 0 ∷ 0 ∷ 0 ∷ []) ∷ (0 ∷ 1 ∷ 0 ∷ 0 ∷ []) ∷ []
+unfolding copyTable
 bar-copies-open = refl
 
 -- Copies are counted from the retraces, and not as a line's steps less the pieces: two dashes apart, closing, have a copy each, and a line goes over one of them alone.
@@ -231,7 +235,7 @@ triangle-none p = go (same (at 0 0) p) (same (at 4 0) p) (same (at 0 3) p)
     go false false true = refl
     go false false false = refl
 
--- not of the segment, also where closing leaves none
-segment-some : NoneOdd (segment 1) → ⊥
-unfolding drawnAt
-segment-some none = true≢false (none (at 0 0))
+-- not of the segment, though closing leaves none of its points odd
+segment-some : (NoneOdd (segment 1) → ⊥) × (map (λ (p : Point). leftOdd p (segment 1)) (at 0 0 ∷ at 3 4 ∷ []) ≡ false ∷ false ∷ [])
+unfolding drawnAt copiesAt
+segment-some = (λ none. true≢false (none (at 0 0)), refl)
