@@ -1,4 +1,4 @@
--- Laws of the definitions in specs/. Proved has demand 3, FileDecides that nothing but the file decides, and Samples the starred drawings.
+-- Laws of the definitions in specs/. Proved has demand 3, WordsExamples its words worked out, Refuted what it says of any output; FileDecides that nothing but the file decides, and Samples the starred drawings.
 pub mod Counted
 pub mod Drawn
 pub mod Examples

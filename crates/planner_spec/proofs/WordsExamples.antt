@@ -181,6 +181,11 @@ dot-copies : map (λ (p : Point). copiesAt p (linkedDot 0)) (at 0 0 ∷ at 4 0 �
 unfolding copiesAt
 dot-copies = refl
 
+-- the three links each have an end at the segment's middle, beside its two pieces, and at the dot; the record with one point twice has none
+links-drawn : map (λ (d : Drawing). map (λ (p : Point). drawnAt p d) (at 0 0 ∷ at 4 0 ∷ at 4 4 ∷ [])) (threeLinks ∷ pointTwice ∷ []) ≡ (1 ∷ 5 ∷ 3 ∷ []) ∷ (1 ∷ 2 ∷ 0 ∷ []) ∷ []
+unfolding drawnAt threeLinks pointTwice
+links-drawn = refl
+
 -- the H, closing: three pieces at either end of the bar, and one at each tip; a retrace that goes through a point has two copies there
 bar-drawn : map (λ (p : Point). drawnAt p (narrowH 1)) (at 4 4 ∷ at 5 4 ∷ at 4 0 ∷ at 5 8 ∷ []) ≡ 3 ∷ 3 ∷ 1 ∷ 1 ∷ []
 unfolding drawnAt
