@@ -1,12 +1,12 @@
 -- What demand 3 says of any output at all, each law from one or two clauses of its statement; and outputs that a wrong planner would write, refused by these laws.
 use Prim.Native.Nat.{ℕ, _+_}
 use mathlib.Core.Path.{_≡_, refl, sym, ap, _∙_, subst}
-use mathlib.Core.Logic.{_⊎_, inl, inr, _↔_}
+use mathlib.Core.Logic.{_⊎_, inl, inr}
 use mathlib.Core.List.{List, [], _∷_, _++_}
 use mathlib.Core.Bool.{true, false, true≢false}
 use native.Mathlib.Nat.{eq-zero-or-pos}
 use native.Mathlib.Omega.{arith}
-use lib.ListN.{length, getD, replicate}
+use lib.ListN.{getD, replicate}
 use Rattle.drawing_spec.specs.Bytes.{bytes}
 use Rattle.drawing_spec.specs.Drawing.{Point, closing, Drawing}
 use Rattle.drawing_spec.specs.Accepted.{InLimits}
