@@ -6,7 +6,7 @@ use mathlib.Core.List.{List, [], _∷_, _++_}
 use mathlib.Core.Bool.{true, false, true≢false}
 use native.Mathlib.Nat.{eq-zero-or-pos}
 use native.Mathlib.Omega.{arith}
-use lib.ListN.{getD, replicate}
+use lib.ListN.{length, getD, drop, replicate, length-append, length-drop}
 use Rattle.drawing_spec.specs.Bytes.{bytes}
 use Rattle.drawing_spec.specs.Drawing.{Point, closing, Drawing}
 use Rattle.drawing_spec.specs.Accepted.{InLimits}
@@ -46,6 +46,12 @@ module _ {d : Drawing} {before after : List ℕ} (D : Demand3 d before after) wh
   -- the bytes are the record of the line that is read back, and then those that were there
   bytes-are : after ≡ inFront (lineRecord (lineWritten after)) before
   bytes-are = subst (λ (l : List Point). after ≡ inFront (lineRecord l) before) line-read (D .written .is)
+
+  -- the output is as long as it was
+  as-long : length after ≡ length before
+  as-long =
+      let front = lineRecord (D .line) in
+      omega (arith, ap length (D .written .is), D .written .room, length-append front (drop (length front) before), length-drop (length front) before)
 
   module _ (first : Point) (rest : List Point) (is : lineWritten after ≡ first ∷ rest) where
     ends-of : Ends d first rest
@@ -162,6 +168,11 @@ module _ (before rest : List ℕ) where
 changed-behind : Demand3 (linkedDot 0) (replicate 88 7) (lineRecord rightLine ++ 7 ∷ 8 ∷ []) → ⊥
 unfolding lineRecord lineWritten
 changed-behind D = let k : _≡_ {A = ℕ} 8 7 = ap (λ (bs : List ℕ). getD bs 87 0) (bytes-are D) in omega arith
+
+-- the right line, whose record has 86 bytes, over an output of 85
+past-the-end : Demand3 (linkedDot 0) (replicate 85 7) (lineRecord rightLine) → ⊥
+unfolding lineRecord
+past-the-end D = let k : _≡_ {A = ℕ} 86 85 = as-long D in omega arith
 
 -- the right line, in a record of kind 2
 of-kind-2 : (before : List ℕ) → Demand3 (linkedDot 0) before (bytes 4 80 ++ bytes 2 2 ++ pointBytes rightLine) → ⊥
