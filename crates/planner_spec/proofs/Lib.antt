@@ -1,4 +1,4 @@
--- Laws of the definitions in specs/. Proved has demand 3, EulerLine that the line written is an Euler line of the repaired graph, FileDecides that nothing but the file decides, and
+-- Laws of the definitions in specs/. Proved has demand 3, Refuted what it shuts out, EulerLine that the line is Hierholzer's, FileDecides that nothing but the file decides, and
 -- Samples the starred drawings.
 pub mod Counted
 pub mod Drawn
@@ -7,7 +7,9 @@ pub mod Examples
 pub mod FileDecides
 pub mod LineEnds
 pub mod LineRecord
+pub mod Numbered
 pub mod Plan
 pub mod Proved
-pub mod Numbered
+pub mod Refuted
 pub mod Samples
+pub mod WordsExamples
