@@ -23,6 +23,7 @@ Finding = collections.namedtuple("Finding", "words record points strokes", defau
 # A refusal: its number, the condition in one sentence, what was found, what a designer can do.
 Refusal = collections.namedtuple("Refusal", "number condition findings remedy")
 
+# In the order in which the planner checks them.
 CONDITIONS = {
     1: ("the file is too long",
         f"A drawing file has at most {MOST_BYTES:,} bytes: leave out points, or make two drawings of it."),
@@ -227,6 +228,8 @@ def astray(lines, line, segment):
 
 CHECKS = {1: too_long, 2: is_cut, 3: out_of_order, 4: wrong_length, 5: setting_out_of_range, 6: too_much, 7: off_the_grid,
           8: link_astray}
+
+FROM_THE_FILE = {*CHECKS, 9, 10, 11}  # what `first_refusal` tells
 
 
 # ---- conditions 9 to 11
