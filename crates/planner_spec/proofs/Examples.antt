@@ -8,6 +8,7 @@ use lib.ListN.{length, getD, drop, replicate, length-append}
 use lib.IntN.{pos}
 use lib.Ieee.{Float, fin}
 use Rattle.drawing_spec.specs.Drawing.{Point, Settings}
+use Rattle.limits.specs.Limits.{refusedPath, refusedEdges}
 use Rattle.drawing_spec.specs.Refusal.{numberOf}
 use Rattle.graph_spec.specs.Graph.{Edge, edge, Graph}
 use Rattle.repair_spec.specs.Repair.{Repair, Repairing, stopped, repaired}
@@ -15,8 +16,8 @@ use Rattle.planner_spec.specs.LineRecord.{lineRecord, inFront, lineWritt
 use Rattle.planner_spec.proofs.LineRecord.{record-length}
 use Rattle.planner_spec.specs.Plan.{Lent, Answer, refusal, planned, repairOf, graphConditions, outputConditions, planRepaired, planGraph}
 
--- whatever the graph, the settings, what is lent and the repair
-in-order : (g : Graph) (s : Settings) (lent : Lent) (r : Repair) → map numberOf (graphConditions g s lent ++ outputConditions g s lent r) ≡ 9 ∷ 10 ∷ 11 ∷ 14 ∷ []
+-- whatever the graph, the settings, what is lent and the repair: those before repair, those that repair stops with, and the one behind it
+in-order : (g : Graph) (s : Settings) (lent : Lent) (r : Repair) → map numberOf (graphConditions g s lent) ++ (refusedPath ∷ refusedEdges ∷ map numberOf (outputConditions g s lent r)) ≡ 9 ∷ 10 ∷ 11 ∷ 12 ∷ 13 ∷ 14 ∷ []
 unfolding graphConditions outputConditions
 in-order g s lent r = refl
 

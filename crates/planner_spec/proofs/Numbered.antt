@@ -1,40 +1,41 @@
 -- No refusal has the number 0, so a caller in another language can tell a refusal by it.
-use mathlib.Core.Path.{_≡_, refl, subst}
+use mathlib.Core.Path.{_≡_, refl, sym, ap, _∙_, subst}
 use mathlib.Core.Logic.{inl, inr}
-use mathlib.Core.List.{List, [], _∷_}
-use mathlib.Core.Bool.{true, false}
+use mathlib.Core.List.{List}
+use mathlib.Core.Bool.{true}
 use Prim.Native.Nat.{ℕ, _<_}
 use native.Mathlib.Omega.{arith}
-use lib.Dec.{lit<}
+use native.Mathlib.Nat.{eq-zero-or-pos}
+use lib.Dec.{ltb}
 use Rattle.drawing_spec.specs.Drawing.{Settings}
-use Rattle.lists.specs.Members.{All}
-use Rattle.drawing_spec.specs.Refusal.{Condition, condition, numberOf, Verdict, refused, accepted, verdict}
-use Rattle.drawing_spec.specs.Read.{readConditions}
+use Rattle.drawing_spec.specs.Refusal.{Condition, numberOf, Verdict, refused, accepted, refusalOf, verdict}
+use Rattle.drawing_spec.specs.Read.{every, readConditions}
+use Rattle.drawing_spec.proofs.Refusal.{above-zero}
 use Rattle.graph_spec.specs.Graph.{Graph, buildGraph}
 use Rattle.repair_spec.specs.Repair.{Repair, Repairing, stopped, repaired}
 use Rattle.planner_spec.specs.Plan.{Lent, Outcome, refusal, refuse, accept, repairOf, graphConditions, outputConditions, planRepaired, planGraph, drawingIn, plan}
 use Rattle.planner_spec.proofs.Plan.{file-refused, file-accepted, drawing-graph, stops-by}
 
 abbrev Numbered : List Condition → Type 0
-Numbered cs = All (λ (c : Condition). 0 < numberOf c) cs
+Numbered cs = every (λ (c : Condition). ltb 0 (numberOf c)) cs ≡ true
 
 refused-numbered : (cs : List Condition) → Numbered cs → (k : ℕ) → verdict cs ≡ refused k → 0 < k
-unfolding verdict
-refused-numbered [] n k h = absurd (let z : _≡_ {A = ℕ} 0 1 = cc in omega arith)
-refused-numbered (condition m true ∷ cs) n k h = let same : m ≡ k = cc in subst (λ (j : ℕ). 0 < j) same (n .0)
-refused-numbered (condition m false ∷ cs) n k h = refused-numbered cs (n .1) k h
+refused-numbered cs n k h = elim (eq-zero-or-pos k) [
+  | inl z ↦ let e : accepted ≡ refused k = sym (above-zero cs n (ap refusalOf h ∙ z)) ∙ h in absurd (let z : _≡_ {A = ℕ} 0 1 = cc in omega arith)
+  | inr p ↦ p
+]
 
 read-numbered : (file : List ℕ) → Numbered (readConditions file)
-unfolding readConditions
-read-numbered file = (lit< tt, (lit< tt, (lit< tt, (lit< tt, (lit< tt, (lit< tt, (lit< tt, (lit< tt, tt))))))))
+unfolding readConditions every
+read-numbered file = refl
 
 graph-conditions-numbered : (g : Graph) (s : Settings) (lent : Lent) → Numbered (graphConditions g s lent)
-unfolding graphConditions
-graph-conditions-numbered g s lent = (lit< tt, (lit< tt, (lit< tt, tt)))
+unfolding graphConditions every
+graph-conditions-numbered g s lent = refl
 
 output-numbered : (g : Graph) (s : Settings) (lent : Lent) (r : Repair) → Numbered (outputConditions g s lent r)
-unfolding outputConditions
-output-numbered g s lent r = (lit< tt, tt)
+unfolding outputConditions every
+output-numbered g s lent r = refl
 
 -- what the first condition of a list that holds is refused by
 verdict-numbered : (cs : List Condition) → Numbered cs → (o : Outcome) (lent : Lent) (k : ℕ) → (o .answer ≡ refusal k → 0 < k)
