@@ -33,7 +33,7 @@ pub enum Refusal {
     TooManyOdd = 10,
     /// Optimal pairing, and tables too short for the odd points: see `floats_for`.
     TablesTooSmall = 11,
-    /// Not known to happen.
+    /// Proved never to happen.
     NoWayBack = 12,
     /// With its retraces the drawing has more than 4,000 strokes.
     TooManySteps = 13,
