@@ -182,7 +182,7 @@ pub fn search_from(
     count
 }
 
-// What a search changed is as it was before it.
+// Clears what a search changed: no node is reached, as before it.
 pub fn clear(
     dist: &mut [f64; MOST_NODES],
     tree: &mut [f64; 2 * MOST_NODES],
