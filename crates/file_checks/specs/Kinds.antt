@@ -1,4 +1,4 @@
--- The order of a file's records, one at a time: which bodies are left.
+-- Whether all of some records are links, of kind 3.
 use mathlib.Core.List.{List}
 use mathlib.Core.Bool.{Bool}
 use lib.Dec.{eqb}

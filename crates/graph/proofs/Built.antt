@@ -1,10 +1,13 @@
 -- Arrays to which a drawing was traced hold its graph. Assumes nothing.
-use mathlib.Core.Path.{_≡_, sym, ap, ap₂, subst}
-use mathlib.Core.List.{List}
+use mathlib.Core.Path.{_≡_, sym, ap, ap₂, subst, _∙_}
+use mathlib.Core.List.{List, map}
 use Prim.Native.Nat.{ℕ, _≤_}
 use native.Mathlib.Omega.{arith}
-use lib.ListN.{length}
-use Rattle.limits.specs.Limits.{edgeRoom}
+use lib.ListN.{length, replicate, length-map}
+use lib.Seq.{sets}
+use Rattle.limits.specs.Limits.{mostNodes, edgeRoom}
+use Rattle.file_drawing.specs.Stores.{padded}
+use Rattle.file_drawing.proofs.Stores.{sets-padded}
 use Rattle.drawing_spec.specs.Drawing.{Point, noPoint, Drawing}
 use Rattle.lists.specs.Members.{All}
 use Rattle.drawing_spec.specs.OnGrid.{OnGrid, AtEnds}
@@ -39,6 +42,11 @@ module _ (d : Drawing) (c : Counts d) (lines : All (All OnGrid) (d .lines)) (lin
   few-edges : length es ≤ edgeRoom
   unfolding es
   few-edges = omega (arith, few .edges)
+
+  -- a coordinate of each node, put into an array of zeros
+  nodes-padded : (f : Point → ℕ) → sets (replicate mostNodes 0) 0 (map f ns) ≡ padded mostNodes 0 (map f ns)
+  unfolding ns
+  nodes-padded f = sets-padded mostNodes 0 (map f ns) (omega (arith, length-map ns f, few .nodes))
 
   module _ (t : Table) (H : Held t ns) where
     nodes-held : NodesHeld (length ns) (t .xs) (t .ys)
@@ -77,4 +85,6 @@ module _ (d : Drawing) (c : Counts d) (lines : All (All OnGrid) (d .lines)) (lin
         nodes = nodes-held t (T .nodes-held);
         edges = edges-held a (T .edges-held);
         is = ap₂ (λ (vs : List Point) (fs : List Edge). record { nodes = vs; edges = fs }) (nodes-are t (T .nodes-held)) (edges-here a (T .edges-held));
+        xs-are = T .nodes-held .xs-are ∙ nodes-padded (λ (q : Point). q .x);
+        ys-are = T .nodes-held .ys-are ∙ nodes-padded (λ (q : Point). q .y);
       }))

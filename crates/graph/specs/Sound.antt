@@ -1,4 +1,5 @@
--- What is known of an accepted file's arrays: they hold the drawing that they say, and that drawing passes checks 6 to 8.
+-- What is known of an accepted file's arrays: they hold the drawing that they say; it has no more lines, points and links than check 6 allows, the ends of its links
+-- pass check 8, and all its points lie on the grid.
 use mathlib.Core.Path.{_≡_}
 use Rattle.drawing_spec.specs.Drawing as drawn
 use mathlib.Core.Bool.{true}

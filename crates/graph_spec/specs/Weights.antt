@@ -1,4 +1,4 @@
--- What the weights of a drawing's edges are: lengths on the grid.
+-- What is known of a drawing's edges when least distances are searched: how many nodes there are at most, and that weights are lengths on the grid.
 use mathlib.Core.List.{List}
 use mathlib.Core.Bool.{false}
 use Prim.Native.Nat.{ℕ, _^_, _≤_, _<_}
@@ -28,7 +28,8 @@ Long es = (e : Edge) → In e es → key binary64 gridStep ≤ key binary64 (e .
 abbrev pub Short : List Edge → Type 0
 Short es = (e : Edge) → In e es → key binary64 (e .weight) ≤ key binary64 longest
 
--- What holds of the edges of a drawing and of their copies: both ends are among n nodes, and a weight is no negative number, is a grid step or longer, and is 2 ^ 14 or shorter.
+-- What holds of the edges of a drawing and of their copies: there are fewer than 2 ^ 27 nodes, so that every least distance but infinity is below 2 ^ 41; both ends are
+-- among the n nodes; and a weight is no negative number, is a grid step or longer, and is 2 ^ 14 or shorter.
 pub record Searchable (n : ℕ) (es : List Edge) : Type 0 where
   pub few : n < 2 ^ 27
   pub inside : Inside n es

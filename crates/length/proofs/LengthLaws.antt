@@ -17,9 +17,10 @@ use Rattle.sums.specs.Key.{Nonneg, key}
 use Rattle.sums.proofs.KeyLaws.{lt-key, nonneg-number}
 use Rattle.sums.proofs.Sum.{plusZero, zero-key}
 use Rattle.grid.specs.Grid.{gap}
-use Rattle.length.specs.Root.{square, squaredOf, rootOver, lengthAt, lengthOf}
+use Rattle.length.specs.Root.{square, squaredOf, root, rootOver, lengthAt, lengthOf}
 use Rattle.length.specs.Nearest.{NearestRoot}
 use Rattle.length.proofs.Nearest.{nearest-mono}
+use Rattle.length.proofs.Value.{root-is, root-over-is}
 use Rattle.length.proofs.Proved.{root-over-nearest, root-over-nonneg, root-over-finite, root-over-zero}
 use Rattle.length.proofs.Order.{root-over-order}
 
@@ -35,6 +36,10 @@ square-le a b A B = mul-le-mul {n₂ = 2 ^ 24} {m₂ = 2 ^ 24} (gap-le a b A B) 
 
 pub squared-lt : (ax ay bx by : ℕ) → ax ≤ 2 ^ 24 → ay ≤ 2 ^ 24 → bx ≤ 2 ^ 24 → by ≤ 2 ^ 24 → squaredOf ax ay bx by < 2 ^ 50
 squared-lt ax ay bx by A B C D = omega (arith, square-le ax bx A C, square-le ay by B D)
+
+-- the root itself, not divided
+pub root-nearest : (n : ℕ) → 0 < n → n < 2 ^ 64 → NearestRoot binary64 0 n (root binary64 n)
+root-nearest n p h = rw (root-is binary64 n) (rw (root-over-is binary64 n (short n h) 0 zero-le) at (root-over-nearest binary64 0 n p (short n h) zero-le))
 
 module _ (e : ℕ) (small : e ≤ prec binary64) where
   pub length-nearest : (n : ℕ) → 0 < n → n < 2 ^ 64 → NearestRoot binary64 e n (lengthAt e n)

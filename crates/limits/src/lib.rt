@@ -41,7 +41,7 @@ pub const MOST_LINKS: usize = 255;
 // Checks 10 and 11: the odd nodes that Optimal pairs.
 pub const MOST_ODD: usize = 20;
 
-// Checks 12 and 13: the edges of a repaired graph.
+// Check 13: the edges of a repaired graph.
 pub const MOST_EDGES: usize = 4000;
 
 // Two split points for each link, and a node for each of them and for each point.

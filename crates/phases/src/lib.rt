@@ -90,8 +90,8 @@ pub fn end_of_odd(
     made(odd, last)
 }
 
-// The least distance from one node to another, added to `sum`. The search is made in lent arrays, which are then as they
-// were.
+// The least distance from one node to another, added to `sum`. The search is made in lent arrays, in which afterwards no
+// node is reached, as before; what `touched` holds is left open.
 fn add_distance(
     ends: &[u16; ARC_ROOM],
     weights: &[f64; EDGE_ROOM],

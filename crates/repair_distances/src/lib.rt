@@ -31,7 +31,8 @@ fn copy_row(
     }
 }
 
-// The row of the odd node at place i. The search is made in lent arrays, which are then as they were.
+// The row of the odd node at place i. The search is made in lent arrays, in which afterwards no node is reached, as before;
+// what `touched` holds is left open.
 fn fill_row(
     ends: &[u16; ARC_ROOM],
     weights: &[f64; EDGE_ROOM],

@@ -1,4 +1,4 @@
--- The shortest path that code finds and keeps at the end of an array. Assumes nothing.
+-- The way back that code finds and keeps at the end of an array: the definition's `shortestPath`. Assumes nothing.
 use mathlib.Core.Path.{_≡_, sym, ap, subst, _∙_}
 use mathlib.Core.Logic.{inl, inr}
 use mathlib.Core.List.{List, []}

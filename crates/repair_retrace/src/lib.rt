@@ -1,5 +1,6 @@
-// Retraces: for each pair of nodes a copy of each edge along the shortest path between them, in the edges of
-// a graph in flat arrays (crates/graph_adjacency).
+// Retraces: for each pair of nodes a copy of each edge along a way between them, in the edges of a graph in flat
+// arrays (crates/graph_adjacency). It is the way back that fits the least distances within 1e-10, which the source calls
+// the shortest path.
 ghost use mathlib.Core.Path.{_≡_};
 ghost use mathlib.Core.List.{[], _∷_};
 ghost use Prim.Native.Nat.{_<_, _≤_};
@@ -29,8 +30,9 @@ pub enum Applied {
     Refused(u8),
 }
 
-// The shortest path from s to t, written into `path` as the way back writes it: what stands in front of it, and all of
-// `path` on `Missing`, is left open. The search is made in lent arrays, which are then as they were.
+// The way from s to t that fits the least distances within 1e-10, the definition's `shortestPath`, written into `path` as
+// the way back writes it: what stands in front of it, and all of `path` on `Missing`, is left open. The search is made in
+// lent arrays, in which afterwards no node is reached, as before; what `touched` holds is left open.
 pub fn shortest_path(
     ends: &[u16; ARC_ROOM],
     weights: &[f64; EDGE_ROOM],

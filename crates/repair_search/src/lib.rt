@@ -129,6 +129,8 @@ fn last_listed(
 // `Found`, by `UpTo`: a distance within the goal's is the least; to a node beyond it no way costs less than the goal's.
 // `Touched`, by `Listed`: the first r of `touched` are nodes, every node with a distance among them, and none of the
 // others has a value in the tournament.
+// Which distance a node beyond the goal has, which value a reached node has in the tournament, the order of the nodes in
+// `touched` and what stands behind them is left open.
 pub fn search_from(
     ends: &[u16; ARC_ROOM],
     weights: &[f64; EDGE_ROOM],
@@ -180,7 +182,7 @@ pub fn search_from(
     count
 }
 
-// What a search changed is as it was before it.
+// Clears what a search changed: no node is reached, as before it.
 pub fn clear(
     dist: &mut [f64; MOST_NODES],
     tree: &mut [f64; 2 * MOST_NODES],

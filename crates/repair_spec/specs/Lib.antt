@@ -1,7 +1,7 @@
 -- Which odd nodes are paired, and which way each retrace goes.
 -- least distances:
 pub mod Distance
--- the shortest path between two nodes, from its end back:
+-- the way between two nodes, from its end back, that fits the least distances within 1e-10:
 pub mod Retrace
 -- the copies laid along it:
 pub mod Copies

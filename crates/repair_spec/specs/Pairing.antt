@@ -62,7 +62,7 @@ greedyPairs (suc k) ns vs =
       ]
     ]
 
--- ---- Optimal: of all pairings that leave two nodes out one of the least cost, the first better choice kept
+-- ---- Optimal: each two nodes are left out in turn, and of the others the first is paired with each other one in turn; a choice is kept until a later one costs less, by rounded sums
 
 pub record Matching : Type 0 where
   pub cost : Float

@@ -1,5 +1,4 @@
--- What it does to the distances to look along the edges of one node: a distance changes only to a lower one that an edge offers, and no offer is missed.
--- In which order the edges are looked at does not matter for that.
+-- Of distances: the key of a node's distance, and that none is negative, -0.0 or NaN.
 use mathlib.Core.List.{List}
 use Prim.Native.Nat.{ℕ}
 use lib.Ieee.{Float, binary64}

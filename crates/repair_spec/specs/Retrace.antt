@@ -1,4 +1,6 @@
--- A retrace: the shortest path between the two nodes of a pair, found from its end back.
+-- A retrace: a way between the two nodes of a pair, found from its end back by the least distances, which each step fits within 1e-10. The source calls it `shortest_path`.
+-- It need not be the shortest: closing the lines (0, 0) (500, 1) (1000, 0), (0, 0) (499, 1) (1000, 0) and (0, 0) (500, 400) (1000, 0), in grid steps, goes back by (499, 1),
+-- which is longer than by (500, 1), but by less than 1e-10.
 use Prim.Native.Nat.{ℕ, zero, suc, _^_}
 use mathlib.Core.List.{List, [], _∷_}
 use mathlib.Core.Bool.{Bool, true, false, _&&_, _||_, not}
@@ -50,7 +52,7 @@ wayBack (suc k) es ds s v after =
       | false ↦ elim (stepBack ds (distanceAt ds v) (v ∷ after) (edgesAt es v)) [ to u ↦ wayBack k es ds s u (v ∷ after) | none ↦ error ]
     ]
 
--- no node is visited twice, so n nodes are enough steps
+-- the source's `shortest_path`: no node is visited twice, so n nodes are enough steps
 unfoldable pub shortestPath : ℕ → List Edge → ℕ → ℕ → Path
 unfolding wayBack distances
 shortestPath n es s t = wayBack n es (distances n es s) s t []

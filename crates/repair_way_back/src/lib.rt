@@ -14,6 +14,10 @@ use limits::ARC_ROOM;
 use limits::EDGE_ROOM;
 use limits::MOST_NODES;
 
+// The source's 1e-10, `tolerance` of the definitions: by less than this the distances on the way back may be off. `on_way_back`
+// promises the definition's answer for every three floats, which ties the two together.
+const TOLERANCE: f64 = 1e-10;
+
 // Whether a neighbour at the distance d, by an edge of weight w, is on the way back from a node at the
 // distance c.
 pub fn on_way_back(d: f64, w: f64, c: f64) -> bool
@@ -21,9 +25,9 @@ pub fn on_way_back(d: f64, w: f64, c: f64) -> bool
 {
     let x = d + w - c;
     if x < 0.0 {
-        return -x < 1e-10;
+        return -x < TOLERANCE;
     }
-    x < 1e-10
+    x < TOLERANCE
 }
 
 // Whether the arc k of the node v leads to a node that is not seen yet and on the way back from v.

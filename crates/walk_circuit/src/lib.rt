@@ -38,7 +38,8 @@ fn first_arcs(
 
 // The circuit from the node s over m edges between n nodes. Its entries stand from the place that is the
 // answer to the end of the two arrays: the nodes, and how each was entered, 0 for the first and i + 1 by the
-// edge i. The front of the arrays is the stack of the walk, which never meets them.
+// edge i. The front of the arrays is the stack of the walk, which never meets them; what stands there afterwards is left
+// open.
 pub fn circuit(
     ends: &[u16; ARC_ROOM],
     weights: &[f64; EDGE_ROOM],

@@ -38,8 +38,8 @@ pub fn closed_line(
 
 // The line from s between the nodes u and v: the virtual edge from u to v is added, and its step is cut, which is known
 // by the edge's number, m. It is the definition's answer for any graph, and a line through all edges where u and v alone
-// are odd and all are reached. The answer is how many nodes the line has. What the arrays of the edges hold afterwards,
-// with the virtual edge, is left open.
+// are odd and all are reached. The answer is how many nodes the line has; what stands behind them is left open. What the
+// arrays of the edges hold afterwards, with the virtual edge, is left open.
 pub fn open_line(
     ends: &mut [u16; ARC_ROOM],
     weights: &mut [f64; EDGE_ROOM],

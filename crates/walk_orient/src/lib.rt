@@ -40,7 +40,7 @@ pub fn end_points(
     EndPoints::Ends(first, last)
 }
 
-// The first `count` nodes the other way round.
+// The first `count` nodes the other way round. What stands behind them is left open.
 fn reverse(line: &mut [u16; LINE_ROOM], count: usize)
     requires { ⌜ (count ≤ lineRoom) × (count ≤ length (now line)) ⌝ }
     ensures { λ _. ⌜ Reversed (now (line .entry)) count (now (line .exit)) ⌝ }
@@ -57,7 +57,8 @@ fn reverse(line: &mut [u16; LINE_ROOM], count: usize)
     }
 }
 
-// Turns a line of `count` nodes where its last point is strictly better than its first.
+// Turns a line of `count` nodes where its last point is strictly better than its first. What stands in `line` behind them is
+// left open.
 pub fn orient_path(
     xs: &[u32; MOST_NODES],
     ys: &[u32; MOST_NODES],

@@ -25,7 +25,7 @@ add-result : tie.Need-add-result
 add-result c = search needs
 
 returns-2 : tie.Need-returns-2
-returns-2 c = drawn-edge (c .before .before .before .before .before .before .before .before .before .args .m) (c .before .before .before .before .before .before .before .before .before .args .u) (c .before .before .before .before .before .before .before .before .before .args .v) (at (c .before .before .before .before .before .before .before .before .before .args .px) (c .before .before .before .before .before .before .before .before .before .args .py)) (at (c .before .before .before .before .before .before .before .before .before .args .qx) (c .before .before .before .before .before .before .before .before .before .args .qy)) (adjacency (c .before .before .before .before .before .before .before .before .before .args .ends .now) (c .before .before .before .before .before .before .before .before .before .args .weights .now) (c .before .before .before .before .before .before .before .before .before .args .next .now) (c .before .before .before .before .before .before .before .before .before .args .heads .now)) _ (c .before .before .before .before .before .before .before .before .same-place .ensures) (c .before .before .before .before .before .before .before .if1 .left) _ (c .before .before .before .before .before .before .squared .ensures) _ (c .before .before .before .before .before .length .ensures) _ (c .push-edge .ensures)
+returns-2 c = drawn-edge (c .before .before .before .before .before .before .before .before .before .args .m) (c .before .before .before .before .before .before .before .before .before .args .u) (c .before .before .before .before .before .before .before .before .before .args .v) (at (c .before .before .before .before .before .before .before .before .before .args .px) (c .before .before .before .before .before .before .before .before .before .args .py)) (at (c .before .before .before .before .before .before .before .before .before .args .qx) (c .before .before .before .before .before .before .before .before .before .args .qy)) (adjacency (c .before .before .before .before .before .before .before .before .before .args .ends .now) (c .before .before .before .before .before .before .before .before .before .args .weights .now) (c .before .before .before .before .before .before .before .before .before .args .next .now) (c .before .before .before .before .before .before .before .before .before .args .heads .now)) _ (c .before .before .before .before .before .before .before .before .same-place .ensures) (c .before .before .before .before .before .before .before .if1 .left) _ (c .before .before .before .before .before .before .squared .ensures) _ (c .before .before .before .before .before .length .ensures .0) _ (c .push-edge .ensures)
 
 pub draw-spec : {M : Type 1} → statement M
 draw-spec =

@@ -1,10 +1,12 @@
 -- `length::root` meets its contract: the quotient of the significand by a power of two is the definition's rounded fraction, with nothing lost on the way.
 use mathlib.Core.Path.{_≡_, refl, ap₂, _∙_}
-use Prim.Native.Nat.{ℕ, _<_}
+use Prim.Native.Nat.{ℕ, _^_, _<_}
 use native.Mathlib.Omega.{arith}
 use lib.IntN.{pos}
-use lib.Ieee.{binary64, ofBits, ofInt, div}
+use lib.Ieee.{Float, binary64, ofBits, ofInt, div}
 use Rattle.length.specs.Root.{root, significand}
+use Rattle.length.specs.Nearest.{NearestRoot}
+use Rattle.length.proofs.LengthLaws.{root-nearest}
 use Rattle.length.proofs.Shift.{in-float, power-in-float, half-le, shifted, shifted-ge, significand-is-digits, power-is-places, digits-fit, quotient-is-root}
 use Rattle.length.proofs.root.Statement.{statement}
 use Rattle.length.proofs.root.Tie as tie
@@ -19,8 +21,12 @@ at-zero : ofBits binary64 0 ≡ root binary64 0
 unfolding ofBits root
 at-zero = refl
 
+-- what `value` says gives what `nearest` says
+both : (n : ℕ) → n < 2 ^ 64 → (r : Float) → r ≡ root binary64 n → (r ≡ root binary64 n) × (0 < n → NearestRoot binary64 0 n r)
+both n h r q = (q, λ p. rw q (root-nearest n p h))
+
 returns : tie.Need-returns
-returns c = rw (c .if1 .taken) at-zero
+returns c = both _ (c .before .fits .n .fits) _ (rw (c .if1 .taken) at-zero)
 
 mul-digits : tie.Need-mul-digits
 mul-digits c = omega (arith, half-le _ (positive c) (c .before .fits .n .fits))
@@ -53,7 +59,7 @@ returns-2 : tie.Need-returns-2
 returns-2 c =
     let p = positive (c .before .before .before) in
     let w = c .before .before .before .before .fits .n .fits in
-    ap₂ (λ (a b : ℕ). div binary64 (ofInt binary64 (pos a)) (ofInt binary64 (pos b))) (digits-are (c .before .before)) (power-is-places _ p w) ∙ quotient-is-root _ p w
+    both _ w _ (ap₂ (λ (a b : ℕ). div binary64 (ofInt binary64 (pos a)) (ofInt binary64 (pos b))) (digits-are (c .before .before)) (power-is-places _ p w) ∙ quotient-is-root _ p w)
 
 pub root-spec : {M : Type 1} → statement M
 root-spec =

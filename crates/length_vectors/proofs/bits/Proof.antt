@@ -10,7 +10,7 @@ length-requires : tie.Need-length-requires
 length-requires c κs = search needs
 
 float-to-bits-result : tie.Need-float-to-bits-result
-float-to-bits-result c = rw (c .length .ensures) (length-number gridExponent (lit≤ tt) _ (c .before .fits .n .fits))
+float-to-bits-result c = rw (c .length .ensures .0) (length-number gridExponent (lit≤ tt) _ (c .before .fits .n .fits))
 
 returns : tie.Need-returns
 returns c = search needs
