@@ -1,7 +1,7 @@
 -- Laws of specs/Part.
 use Prim.Native.Nat.{ℕ, _+_, _-_, _≤_, _<_}
 use native.Mathlib.Omega.{arith}
-use mathlib.Core.Path.{_≡_, sym, _∙_}
+use mathlib.Core.Path.{_≡_, refl, sym, ap, _∙_}
 use mathlib.Core.List.{List, []}
 use mathlib.Core.Bool.{Bool, true, false}
 use lib.ListN.{length, take, drop}
@@ -27,9 +27,12 @@ module _ (file : List ℕ) (at : ℕ) (t : Bool) (w : t ≡ wholeAt file at) whe
   unfolding bodyPart
   part-none e = rw (sym w ∙ e)
 
-  pub behind-whole : (n : ℕ) → t ≡ true → n ≡ sizeAt file at → at + (6 + n) ≡ behindAt file at
+  pub behind-next : t ≡ true → behindAt file at ≡ nextAt file at
   unfolding behindAt
-  behind-whole n e i = rw (sym w ∙ e, i)
+  behind-next e = rw (sym w ∙ e)
+
+  pub behind-whole : (n : ℕ) → t ≡ true → n ≡ sizeAt file at → at + (6 + n) ≡ behindAt file at
+  behind-whole n e i = ap (λ (m : ℕ). at + (6 + m)) i ∙ sym (behind-next e)
 
   pub behind-none : t ≡ false → at ≡ behindAt file at
   unfolding behindAt
@@ -46,5 +49,4 @@ module _ (file : List ℕ) (at : ℕ) (h : at < length file) (w : cutFrom file a
   part-is = rw is-whole
 
   pub behind-is : behindAt file at ≡ nextAt file at
-  unfolding behindAt
-  behind-is = rw is-whole
+  behind-is = behind-next file at true (sym is-whole) refl
