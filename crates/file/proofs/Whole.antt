@@ -16,6 +16,7 @@ use Rattle.drawing_spec.proofs.Placed.{lines-are, links-are, settings-are, coun
 use Rattle.file_records.specs.Body.{settingsFrom, edgeFrom, recordRead}
 use Rattle.file_records.specs.declared.Settings.{Settings}
 use Rattle.file_records.specs.declared.MstEdge.{MstEdge}
+use Rattle.file_reader.specs.Part.{behindAt}
 use Rattle.file_checks.specs.declared.Tally.{Tally}
 use Rattle.file_drawing.specs.declared.Drawing.{Drawing}
 use Rattle.file_checks.specs.Settings.{settingsIn, noSettings}
@@ -80,20 +81,20 @@ starts-as ls ms a e i h = let m = length-ends 0 ms in filled-as (mostLines + 1) 
 abbrev none : Arrays
 none = arrays (replicate (mostLines + 1) 0) (replicate mostPoints 0) (replicate mostPoints 0)
 
-module _ (file : List ℕ) (p : Passed file) (t : Tally) (e : t ≡ tallied (recordsOf file) noTally) where
-  pub lines-ready : AtLines file 16 (t .lines)
+module _ (file : List ℕ) (p : Passed file) (t : Tally) (e : t ≡ tallied (recordsOf file) noTally) (start : ℕ) (behind : start ≡ behindAt file 0) where
+  pub lines-ready : AtLines file start (t .lines)
   lines-ready =
       let rs = recordsOf file in
       let f = few-of (drawingOf rs) (counts-placed rs ∙ p .few) in
       let n = lines-tally (recordsOf file) t e in
-      at-lines file (p .is-whole) (p .in-order) (p .long) (t .lines) (sym (n ∙ ap length (lines-are rs) ∙ length-map (bodies 2 rs) pointsOfLine)) (rw n (f .0)) (rw (lines-are rs, points-in (bodies 2 rs)) at (f .1))
+      at-lines file (p .is-whole) (p .in-order) (p .long) start behind (t .lines) (sym (n ∙ ap length (lines-are rs) ∙ length-map (bodies 2 rs) pointsOfLine)) (rw n (f .0)) (rw (lines-are rs, points-in (bodies 2 rs)) at (f .1))
 
-  pub links-ready : (a b : Arrays) (end : ℕ) → LinesRead file 16 a b end → AtLinks file end (t .links)
+  pub links-ready : (a b : Arrays) (end : ℕ) → LinesRead file start a b end → AtLinks file end (t .links)
   links-ready a c end l =
       let rs = recordsOf file in
       let f = few-of (drawingOf rs) (counts-placed rs ∙ p .few) in
       let n = links-tally (recordsOf file) t e in
-      let b = bodies-behind file (p .is-whole) (p .in-order) (p .long) 3 (λ q. omega arith) in
+      let b = bodies-behind file (p .is-whole) (p .in-order) (p .long) start behind 3 (λ q. omega arith) in
       record {
         inside = l .end-inside;
         is-whole = l .end-whole;
@@ -103,7 +104,7 @@ module _ (file : List ℕ) (p : Passed file) (t : Tally) (e : t ≡ tallied (rec
         few-links = rw n (f .2);
       }
 
-  pub drawing-made : (s : Settings) (r : Arrays) (end : ℕ) (edges : List MstEdge) → s ≡ settingsIn (recordRead file 0 .body) → LinesRead file 16 none r end → edges ≡ sets (replicate mostLinks noLink) 0 (linksFrom file end)
+  pub drawing-made : (s : Settings) (r : Arrays) (end : ℕ) (edges : List MstEdge) → s ≡ settingsIn (recordRead file 0 .body) → LinesRead file start none r end → edges ≡ sets (replicate mostLinks noLink) 0 (linksFrom file end)
       → _≡_ {A = Drawing} (record { settings = s; lines = t .lines; starts = r .starts; points = t .points; xs = r .xs; ys = r .ys; «link_count» = t .links; links = edges }) (drawingHeld (drawingOf (recordsOf file)))
   unfolding drawingHeld
   drawing-made s r end edges i l k =
@@ -111,14 +112,14 @@ module _ (file : List ℕ) (p : Passed file) (t : Tally) (e : t ≡ tallied (rec
       let d = drawingOf rs in
       let f = few-of d (counts-placed rs ∙ p .few) in
       let w = p .is-whole in
-      let lines-as : linesFrom file 16 ≡ d .lines = ap (map pointsOfLine) (sym (bodies-behind file w (p .in-order) (p .long) 2 (λ q. omega arith))) ∙ sym (lines-are rs) in
-      let links-as : linksFrom file end ≡ map edgeFrom (d .links) = ap (λ (bs : List (List ℕ)). map edgeFrom (map linkOf bs)) (l .same-links ∙ sym (bodies-behind file w (p .in-order) (p .long) 3 (λ q. omega arith))) ∙ sym (ap (map edgeFrom) (links-are rs)) in
+      let lines-as : linesFrom file start ≡ d .lines = ap (map pointsOfLine) (sym (bodies-behind file w (p .in-order) (p .long) start behind 2 (λ q. omega arith))) ∙ sym (lines-are rs) in
+      let links-as : linksFrom file end ≡ map edgeFrom (d .links) = ap (λ (bs : List (List ℕ)). map edgeFrom (map linkOf bs)) (l .same-links ∙ sym (bodies-behind file w (p .in-order) (p .long) start behind 3 (λ q. omega arith))) ∙ sym (ap (map edgeFrom) (links-are rs)) in
       let few-e : length (map edgeFrom (d .links)) ≤ mostLinks = rw (length-map (d .links) edgeFrom) (f .2) in
       same-drawing s (settingsFrom (d .settings)) (t .lines) (length (d .lines)) (t .points) (length (linePoints (d .lines))) (t .links) (length (d .links)) (r .starts) (padded (mostLines + 1) 0 (0 ∷ endsFrom 0 (d .lines))) (r .xs) (padded mostPoints 0 (xsOf (linePoints (d .lines)))) (r .ys) (padded mostPoints 0 (ysOf (linePoints (d .lines)))) edges (padded mostLinks noLink (map edgeFrom (d .links)))
       (i ∙ settings-read file w (p .in-order) (p .long) ∙ sym (ap settingsFrom (settings-are rs))) (lines-tally rs t e) (points-tally rs t e ∙ sym (length-line-points (d .lines))) (links-tally rs t e)
-      (starts-as (linesFrom file 16) (d .lines) (r .starts) (l .starts-are) lines-as (f .0))
-      (places-as (λ (p : drawn.Point). p .x) (linesFrom file 16) (d .lines) (r .xs) (l .xs-are) lines-as (f .1))
-      (places-as (λ (p : drawn.Point). p .y) (linesFrom file 16) (d .lines) (r .ys) (l .ys-are) lines-as (f .1))
+      (starts-as (linesFrom file start) (d .lines) (r .starts) (l .starts-are) lines-as (f .0))
+      (places-as (λ (p : drawn.Point). p .x) (linesFrom file start) (d .lines) (r .xs) (l .xs-are) lines-as (f .1))
+      (places-as (λ (p : drawn.Point). p .y) (linesFrom file start) (d .lines) (r .ys) (l .ys-are) lines-as (f .1))
       (filled-as mostLinks noLink edges (linksFrom file end) (map edgeFrom (d .links)) k links-as few-e)
 
 -- ---- check 8 on it

@@ -1,7 +1,7 @@
 // The reader of drawing files: for every slice of bytes the first of checks 1 to 8 that holds, or the drawing.
 //
-// Check 1 is made here, check 2 is `file_records::is_cut`, checks 3 to 7 are in `file_checks`, and check 8 and the arrays
-// in `file_drawing`. This crate has the checks in their order and what the reader answers.
+// Check 1 is made here, checks 2 to 7 are in `file_checks`, and check 8 and the arrays in `file_drawing`. This crate has the
+// checks in their order and what the reader answers.
 ghost use mathlib.Core.Path.{_≡_};
 ghost use Rattle.drawing_spec.specs.Read.{recordsOf, drawingOf};
 ghost use Rattle.drawing_spec.specs.Accepted.{Passed};
@@ -45,7 +45,7 @@ fn first_refusal(file: &[u8]) -> u8
     if MOST_BYTES < file.len() {
         return REFUSED_BYTES;
     }
-    let cut = file_records::is_cut(file);
+    let cut = heads::is_cut(file);
     if cut {
         return REFUSED_CUT;
     }
@@ -101,8 +101,8 @@ fn refused(number: u8) -> Reading
     }
 }
 
-// The drawing of a file that none of the checks before check 8 refuses: the settings' record has 16 bytes, and
-// the lines start behind it.
+// The drawing of a file that none of the checks before check 8 refuses: the settings come first, and the lines start
+// behind them.
 fn drawing_of(file: &[u8]) -> Drawing
     requires { ⌜ Passed (now file) ⌝ }
     ensures { λ r. ⌜ r ≡ drawingHeld (drawingOf (recordsOf (now (file .entry)))) ⌝ }
@@ -112,7 +112,8 @@ fn drawing_of(file: &[u8]) -> Drawing
     let mut starts = [0u16; MOST_LINES + 1];
     let mut xs = [0u32; MOST_POINTS];
     let mut ys = [0u32; MOST_POINTS];
-    let end = arrays::fill_lines(file, 16, t.lines, &mut starts, &mut xs, &mut ys);
+    let start = file_reader::place_behind(file, 0);
+    let end = arrays::fill_lines(file, start, t.lines, &mut starts, &mut xs, &mut ys);
     let links = arrays::read_links(file, end, t.links);
     Drawing {
         settings,

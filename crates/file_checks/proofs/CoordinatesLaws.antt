@@ -14,8 +14,8 @@ use Rattle.drawing_spec.specs.Drawing.{PointOf, LinkOf, Pattern}
 use Rattle.drawing_spec.specs.Read.{Record, bodies, every, lengthsFit, coordinatesFit, pointFits, spots, spotsOfLine, sketchedLink, sketchOf, recordsOf, isCut}
 use Rattle.file_records.specs.Walk.{sizeAt, kindAt, bodyAt, nextAt, recordsFrom, cutFrom}
 use Rattle.file_records.proofs.Walk.{recordAt, none-left, room, still-whole, record-here, body-long}
-use Rattle.file_reader.specs.Part.{bodyPart}
-use Rattle.file_reader.proofs.Part.{part-is}
+use Rattle.file_reader.specs.Part.{bodyPart, behindAt}
+use Rattle.file_reader.proofs.Part.{part-is, behind-is}
 use Rattle.file_checks.specs.Tally.{lengthFits}
 use Rattle.file_checks.proofs.TallyLaws.{and-assoc, Kind, first, second, third, none, kind-of, bodies-here, bodies-other, lengths-cons}
 use Rattle.file_checks.specs.Coordinates.{bodyOn, words, wordsOn, coordinatesIn}
@@ -148,9 +148,9 @@ pub check-end : (file : List ℕ) (at : ℕ) → Checking file at → length fil
 unfolding coordinatesIn bodies every
 check-end file at c h = sym (ap coordinatesIn (none-left file at h)) ∙ c .same
 
-module _ (file : List ℕ) (at k n : ℕ) (b : List ℕ) (c : Checking file at) (h : at < length file) (K : k ≡ kindAt file at) (N : n ≡ sizeAt file at) (E : b ≡ bodyPart file at) where
+module _ (file : List ℕ) (at k : ℕ) (b : List ℕ) (c : Checking file at) (h : at < length file) (K : k ≡ kindAt file at) (E : b ≡ bodyPart file at) where
   body-is : b ≡ bodyAt file at
-  body-is = E ∙ part-is file at (room file at h (c .is-whole))
+  body-is = E ∙ part-is file at h (c .is-whole)
 
   pub body-fits : lengthFits k (length b) ≡ true
   body-fits =
@@ -161,15 +161,13 @@ module _ (file : List ℕ) (at k n : ℕ) (b : List ℕ) (c : Checking file at) 
   here : (v : Bool) → bodyOn k b ≡ v → bodyOn (kindAt file at) (bodyAt file at) ≡ v
   here v e = sym (ap (λ (k : ℕ). bodyOn k b) K ∙ ap (bodyOn (kindAt file at)) body-is) ∙ e
 
-  step : at + (6 + n) ≡ nextAt file at
-  step = ap (λ (m : ℕ). at + (6 + m)) N
-
   pub check-off : bodyOn k b ≡ false → false ≡ coordinatesFit (sketchOf (recordsOf file))
   check-off e = ap (λ (t : Bool). t && coordinatesIn (recordsFrom file (nextAt file at))) (sym (here false e)) ∙ sym (on-step file at h (c .is-whole) (c .lengths-fit)) ∙ c .same
 
-  pub check-on : bodyOn k b ≡ true → Checking file (at + (6 + n))
-  check-on e =
+  pub check-on : bodyOn k b ≡ true → (next : ℕ) → next ≡ behindAt file at → Checking file next
+  check-on e next P =
       let r = room file at h (c .is-whole) in
+      let step : next ≡ nextAt file at = P ∙ behind-is file at h (c .is-whole) in
       record {
         inside = omega arith;
         is-whole = ap (cutFrom file) step ∙ still-whole file at h (c .is-whole);

@@ -12,6 +12,8 @@ use borrow.Author.Tests.{eqb-true, eqb-false, ne-eqb, eq-eqb}
 use Rattle.drawing_spec.specs.Read.{Record, bodies, every, total, linesThenLinks, kindsFit, lengthsFit, recordsOf, isCut}
 use Rattle.file_records.specs.Walk.{sizeAt, kindAt, nextAt, recordsFrom, cutFrom}
 use Rattle.file_records.proofs.Walk.{none-left, room, still-whole, record-here, body-long}
+use Rattle.file_reader.specs.Part.{behindAt}
+use Rattle.file_reader.proofs.Part.{behind-is}
 use Rattle.file_checks.specs.declared.Order.{Order}
 use Rattle.file_checks.specs.declared.Order.the-variants.{Settings, Lines, Links, Broken}
 use Rattle.file_checks.specs.declared.Tally.{Tally}
@@ -236,11 +238,11 @@ pub count-end : (file : List ℕ) (at : ℕ) (t : Tally) → Counting file at t 
 unfolding tallied
 count-end file at t c h = sym (ap (λ (rs : List Record). tallied rs t) (none-left file at h)) ∙ c .same
 
-pub count-on : (file : List ℕ) (at : ℕ) (t u : Tally) (k n : ℕ) → Counting file at t → at < length file → k ≡ kindAt file at → n ≡ sizeAt file at → u ≡ countedAs t k n → Counting file (at + (6 + n)) u
+pub count-on : (file : List ℕ) (at : ℕ) (t u : Tally) (k n : ℕ) → Counting file at t → at < length file → k ≡ kindAt file at → n ≡ sizeAt file at → u ≡ countedAs t k n → (next : ℕ) → next ≡ behindAt file at → Counting file next u
 unfolding tallied countedAs
-count-on file at t u k n c h K N U =
+count-on file at t u k n c h K N U next P =
     let r = room file at h (c .is-whole) in
-    let step : at + (6 + n) ≡ nextAt file at = ap (λ (m : ℕ). at + (6 + m)) N in
+    let step : next ≡ nextAt file at = P ∙ behind-is file at h (c .is-whole) in
     let one2 = one-small k 2 in
     let one3 = one-small k 3 in
     let p = points-small k n in

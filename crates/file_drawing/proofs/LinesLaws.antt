@@ -21,8 +21,8 @@ use Rattle.file_records.proofs.Made.{body-line, record-place, record-whole}
 use Rattle.file_records.specs.declared.Record.{Record}
 use Rattle.file_records.specs.declared.Body.the-variants as body
 use Rattle.file_drawing.specs.Held.{pointsOf}
-use Rattle.file_reader.specs.Part.{bodyPart}
-use Rattle.file_reader.proofs.Part.{part-is}
+use Rattle.file_reader.specs.Part.{bodyPart, behindAt}
+use Rattle.file_reader.proofs.Part.{part-is, behind-is}
 use Rattle.file_checks.specs.Tally.{pointsIn}
 use Rattle.file_checks.proofs.TallyLaws.{line-size, bodies-here, bodies-other}
 use Rattle.file_checks.proofs.KindsLaws.{line-next, links-next, some-left}
@@ -85,9 +85,6 @@ module _ (file : List ℕ) (at : ℕ) (w : cutFrom file at ≡ false) (o : lines
       let k = next .0 in
       let b = body-line file at (kindAt file at) (sizeAt file at) refl refl (λ q. omega arith) k whole-points in
       sym (ap (λ r. pointsOf (r .body)) (record-whole file at true (sym (le-leb (nextAt file at) (length file) (room file at here w))) (body.Line (sizeAt file at / 16)) refl b))
-
-  pub end-here : at + (6 + 16 * (sizeAt file at / 16)) ≡ nextAt file at
-  end-here = let e = whole-points in omega arith
 
   bodies-next : (k : ℕ) → kindAt file at ≡ k → bodies k (recordsFrom file at) ≡ bodyAt file at ∷ bodies k (recordsFrom file (nextAt file at))
   bodies-next k e = ap (bodies k) (record-here file at here w) ∙ bodies-here k (recordAt file at) (recordsFrom file (nextAt file at)) e
@@ -172,20 +169,11 @@ module _ (file : List ℕ) (start count : ℕ) (a : Arrays) (at line filled : �
   points-there = says ∙ ap (λ (r : Record). pointsOf (r .body)) read ∙ points-here file at (f .is-whole) (f .in-order) (f .lengths-fit) some
 
   part-there : part ≡ bodyAt file at
-  part-there = hands ∙ ap (bodyPart file) place-is ∙ part-is file at (room file at at-line (f .is-whole))
+  part-there = hands ∙ ap (bodyPart file) place-is ∙ part-is file at at-line (f .is-whole)
 
-  ends : at + (6 + 16 * (sizeAt file at / 16)) ≡ nextAt file at
-  ends = end-here file at (f .is-whole) (f .in-order) (f .lengths-fit) some
-
-  step : found .at + (6 + 16 * n) ≡ nextAt file at
-  step = let a = place-is in let b = points-there in let e = ends in omega arith
-
-  -- the body has the points, and the record ends inside the file
+  -- the body has the points
   pub within : 16 * n ≤ length part
-  within = let l = ap length part-there ∙ body-long file at at-line (f .is-whole) in let b = points-there in let e = ends in omega arith
-
-  pub ends-inside : found .at + (6 + 16 * n) ≤ length file
-  ends-inside = let e = step in let r = room file at at-line (f .is-whole) in omega arith
+  within = let l = ap length part-there ∙ body-long file at at-line (f .is-whole) in let b = points-there in omega arith
 
   bodies-are : bodies 2 (recordsFrom file at) ≡ bodyAt file at ∷ bodies 2 (recordsFrom file (nextAt file at))
   bodies-are = lines-here file at (f .is-whole) (f .in-order) (f .lengths-fit) some
@@ -219,9 +207,9 @@ module _ (file : List ℕ) (start count : ℕ) (a : Arrays) (at line filled : �
       ∙ sym (ap (λ (ls : List (List Point)). sets starts (line + 1) (endsFrom filled ls)) lines-are)
       ∙ f .same-starts
 
-  pub fill-on : (xs' ys' : List ℕ) → xs' ≡ sets xs filled (xsOf (points n part)) → ys' ≡ sets ys filled (ysOf (points n part))
-      → Filling file start count a (found .at + (6 + 16 * n)) (line + 1) (filled + n) (set starts (line + 1) (filled + n)) xs' ys'
-  fill-on xs' ys' ex ey =
+  pub fill-on : (xs' ys' : List ℕ) → xs' ≡ sets xs filled (xsOf (points n part)) → ys' ≡ sets ys filled (ysOf (points n part)) → (next : ℕ) → next ≡ behindAt file (found .at)
+      → Filling file start count a next (line + 1) (filled + n) (set starts (line + 1) (filled + n)) xs' ys'
+  fill-on xs' ys' ex ey next P =
       let w = f .is-whole in
       let l = f .left in
       let q = f .few-points in
@@ -229,6 +217,7 @@ module _ (file : List ℕ) (start count : ℕ) (a : Arrays) (at line filled : �
       let b = points-there in
       let m = ap length bodies-are in
       let r = room file at at-line w in
+      let step : next ≡ nextAt file at = P ∙ ap (behindAt file) place-is ∙ behind-is file at at-line w in
       subst (λ (k : ℕ). Filling file start count a k (line + 1) (filled + n) (set starts (line + 1) (filled + n)) xs' ys') (sym step)
       (record {
         inside = r;

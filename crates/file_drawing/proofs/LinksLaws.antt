@@ -17,6 +17,8 @@ use Rattle.file_records.proofs.View.{link-front}
 use Rattle.file_records.proofs.Made.{body-link, record-whole}
 use Rattle.file_records.specs.declared.Body.the-variants as body
 use Rattle.file_records.specs.declared.MstEdge.{MstEdge}
+use Rattle.file_reader.specs.Part.{behindAt}
+use Rattle.file_reader.proofs.Part.{behind-is}
 use Rattle.file_drawing.specs.Held.{linkIn, noLink}
 use Rattle.file_checks.proofs.TallyLaws.{link-size, bodies-here}
 use Rattle.file_checks.specs.Kinds.{allLinks}
@@ -35,9 +37,6 @@ module _ (file : List ℕ) (at : ℕ) (w : cutFrom file at ≡ false) (o : allLi
 
   long : sizeAt file at ≡ 40
   long = link-size (kindAt file at) (sizeAt file at) (length-here file at here w l) (next .0)
-
-  step : at + 46 ≡ nextAt file at
-  step = let e = long in omega arith
 
   bodies-are : bodies 3 (recordsFrom file at) ≡ bodyAt file at ∷ bodies 3 (recordsFrom file (nextAt file at))
   bodies-are = ap (bodies 3) (record-here file at here w) ∙ bodies-here 3 (recordAt file at) (recordsFrom file (nextAt file at)) (next .0)
@@ -85,15 +84,8 @@ module _ (file : List ℕ) (start count at link : ℕ) (edges : List MstEdge) (f
   some-link : link < count → 0 < length (bodies 3 (recordsFrom file at))
   some-link h = let l = f .left in omega arith
 
-  pub link-room : link < count → at + 46 ≤ length file
-  link-room h =
-      let s = some-link h in
-      let e = step file at (f .is-whole) (f .only-links) (f .lengths-fit) s in
-      let r = room file at (some-left 3 file at s) (f .is-whole) in
-      omega arith
-
-  pub link-on : link < count → (e : MstEdge) → e ≡ linkIn (recordRead file at .body) → Linking file start count (at + 46) (link + 1) (set edges link e)
-  link-on h e z =
+  pub link-on : link < count → (e : MstEdge) → e ≡ linkIn (recordRead file at .body) → (place : ℕ) → place ≡ behindAt file at → Linking file start count place (link + 1) (set edges link e)
+  link-on h e z place P =
       let s = some-link h in
       let w = f .is-whole in
       let l = f .left in
@@ -101,7 +93,7 @@ module _ (file : List ℕ) (start count at link : ℕ) (edges : List MstEdge) (f
       let b = bodies-are file at w (f .only-links) (f .lengths-fit) s in
       let m = ap length b in
       let r = room file at t w in
-      subst (λ (a : ℕ). Linking file start count a (link + 1) (set edges link e)) (sym (step file at w (f .only-links) (f .lengths-fit) s))
+      subst (λ (a : ℕ). Linking file start count a (link + 1) (set edges link e)) (sym (P ∙ behind-is file at t w))
       (record {
         inside = r;
         is-whole = still-whole file at t w;

@@ -3,7 +3,7 @@ ghost use mathlib.Core.Path.{_≡_};
 ghost use Prim.Native.Nat.{_+_, _*_, _≤_};
 ghost use lib.ListN.{length, replicate};
 ghost use lib.Seq.{sets};
-ghost use Rattle.limits.specs.Limits.{mostPoints, mostLinks};
+ghost use Rattle.limits.specs.Limits.{pointSize, mostPoints, mostLinks};
 ghost use Rattle.drawing_spec.specs.Read.{points};
 ghost use Rattle.file_records.specs.Body.{recordRead};
 ghost use Rattle.file_drawing.specs.Held.{pointsOf, linkIn, noLink};
@@ -16,6 +16,7 @@ use file_records::Point;
 use limits::MOST_LINES;
 use limits::MOST_LINKS;
 use limits::MOST_POINTS;
+use limits::POINT_SIZE;
 
 pub fn no_link() -> MstEdge
     ensures { λ r. ⌜ r ≡ noLink ⌝ }
@@ -65,7 +66,7 @@ fn fill_points(
     xs: &mut [u32; MOST_POINTS],
     ys: &mut [u32; MOST_POINTS],
 )
-    requires { ⌜ (16 * count ≤ length (now body)) × (first + count ≤ mostPoints) ⌝ }
+    requires { ⌜ (pointSize * count ≤ length (now body)) × (first + count ≤ mostPoints) ⌝ }
     ensures xs_filled { λ _. ⌜ now (xs .exit) ≡ sets (now (xs .entry)) first (xsOf (points count (now (body .entry)))) ⌝ }
     ensures ys_filled { λ _. ⌜ now (ys .exit) ≡ sets (now (ys .entry)) first (ysOf (points count (now (body .entry)))) ⌝ }
 {
@@ -75,7 +76,7 @@ fn fill_points(
     while left > 0 {
         xs[i] = file_records::place_at(body, place);
         ys[i] = file_records::place_at(body, place + 8);
-        place += 16;
+        place += POINT_SIZE;
         left -= 1;
         i += 1;
     }
@@ -107,7 +108,7 @@ pub fn fill_lines(
         filled += points;
         line += 1;
         starts[line] = filled as u16;
-        at = place + (6 + 16 * points);
+        at = file_reader::place_behind(file, place);
     }
     at
 }
@@ -122,7 +123,7 @@ pub fn read_links(file: &[u8], start: usize, count: usize) -> [MstEdge; MOST_LIN
     let mut link = 0;
     while link < count {
         edges[link] = link_of(file, at);
-        at += 46;
+        at = file_reader::place_behind(file, at);
         link += 1;
     }
     edges

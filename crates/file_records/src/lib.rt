@@ -3,12 +3,14 @@
 ghost use mathlib.Core.Path.{_≡_};
 ghost use Prim.Native.Nat.{_+_, _≤_, _<_};
 ghost use lib.ListN.{length, drop};
+ghost use Rattle.limits.specs.Limits.{headSize, settingsSize, pointSize, linkSize};
 ghost use Rattle.grid.specs.Grid.{readPlace, placeAt, onGrid};
 ghost use Rattle.drawing_spec.specs.Bytes.{number};
-ghost use Rattle.drawing_spec.specs.Read.{isCut, settingsOf, linkOf, point};
+ghost use Rattle.drawing_spec.specs.Read.{settingsOf, linkOf, point};
 ghost use Rattle.file_records.specs.Walk.{sizeAt, kindAt, nextAt};
 ghost use Rattle.file_records.specs.Body.{settingsFrom, pointFrom, edgeFrom, wholeAt, bodyRead, recordRead};
 use grid::Place;
+use limits::HEAD_SIZE;
 use limits::KIND_LINE;
 use limits::KIND_LINK;
 use limits::KIND_SETTINGS;
@@ -97,7 +99,7 @@ fn number8(file: &[u8], at: usize) -> u64
 
 // The length of the body and the kind of the record at a place that has room for a head.
 pub fn size_at(file: &[u8], at: usize) -> usize
-    requires { ⌜ at + 6 ≤ length (now file) ⌝ }
+    requires { ⌜ at + headSize ≤ length (now file) ⌝ }
     ensures { λ r. ⌜ r ≡ sizeAt (now (file .entry)) at ⌝ }
 {
     let size = number4(file, at);
@@ -105,29 +107,10 @@ pub fn size_at(file: &[u8], at: usize) -> usize
 }
 
 pub fn kind_at(file: &[u8], at: usize) -> u16
-    requires { ⌜ at + 6 ≤ length (now file) ⌝ }
+    requires { ⌜ at + headSize ≤ length (now file) ⌝ }
     ensures { λ r. ⌜ r ≡ kindAt (now (file .entry)) at ⌝ }
 {
     number2(file, at + 4)
-}
-
-// Check 2: whether a record's head or body passes the end of the file.
-pub fn is_cut(file: &[u8]) -> bool
-    ensures { λ r. ⌜ r ≡ isCut (now (file .entry)) ⌝ }
-{
-    let mut at = 0;
-    while at < file.len() {
-        let left = file.len() - at;
-        if left < 6 {
-            return true;
-        }
-        let size = size_at(file, at);
-        if left - 6 < size {
-            return true;
-        }
-        at += 6 + size;
-    }
-    false
 }
 
 // The place that the coordinate at `at` stands for, and nowhere where it is off the grid; whether it is on it.
@@ -149,7 +132,7 @@ pub fn on_grid(file: &[u8], at: usize) -> bool
 }
 
 fn point_at(file: &[u8], at: usize) -> Point
-    requires { ⌜ at + 16 ≤ length (now file) ⌝ }
+    requires { ⌜ at + pointSize ≤ length (now file) ⌝ }
     ensures { λ r. ⌜ r ≡ pointFrom (point (drop at (now (file .entry)))) ⌝ }
 {
     let x = grid::coordinate(place_at(file, at));
@@ -158,7 +141,7 @@ fn point_at(file: &[u8], at: usize) -> Point
 }
 
 fn settings_at(file: &[u8], at: usize) -> Settings
-    requires { ⌜ at + 10 ≤ length (now file) ⌝ }
+    requires { ⌜ at + settingsSize ≤ length (now file) ⌝ }
     ensures { λ r. ⌜ r ≡ settingsFrom (settingsOf (drop at (now (file .entry)))) ⌝ }
 {
     let width = number4(file, at);
@@ -174,7 +157,7 @@ fn settings_at(file: &[u8], at: usize) -> Settings
 }
 
 fn edge_at(file: &[u8], at: usize) -> MstEdge
-    requires { ⌜ at + 40 ≤ length (now file) ⌝ }
+    requires { ⌜ at + linkSize ≤ length (now file) ⌝ }
     ensures { λ r. ⌜ r ≡ edgeFrom (linkOf (drop at (now (file .entry)))) ⌝ }
 {
     let poly_a = number2(file, at);
@@ -201,11 +184,11 @@ pub fn whole_at(file: &[u8], at: usize) -> bool
         return false;
     }
     let left = file.len() - at;
-    if left < 6 {
+    if left < HEAD_SIZE {
         return false;
     }
     let size = size_at(file, at);
-    if left - 6 < size {
+    if left - HEAD_SIZE < size {
         return false;
     }
     true
@@ -218,7 +201,7 @@ fn body_at(file: &[u8], at: usize) -> Body
 {
     let kind = kind_at(file, at);
     let size = size_at(file, at);
-    let start = at + 6;
+    let start = at + HEAD_SIZE;
     if kind == KIND_SETTINGS {
         if size == SETTINGS_SIZE {
             return Body::Settings(settings_at(file, start));

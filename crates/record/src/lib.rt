@@ -5,16 +5,15 @@ ghost use Prim.Native.Nat.{_+_, _*_, _≤_, _<_};
 ghost use lib.ListN.{length};
 ghost use lib.Seq.{sets};
 ghost use Rattle.planner_spec.specs.LineRecord.{lineRecord, inFront};
-ghost use Rattle.limits.specs.Limits.{mostNodes, lineRoom};
+ghost use Rattle.limits.specs.Limits.{headSize, pointSize, mostNodes, lineRoom};
 ghost use Rattle.drawing_spec.specs.Bytes.{bytes};
 ghost use Rattle.graph_arrays.specs.NodeList.{NodeList};
 ghost use Rattle.record.specs.Written.{placeBytes, pointsIn};
+use limits::HEAD_SIZE;
 use limits::KIND_ANSWER;
 use limits::LINE_ROOM;
 use limits::MOST_NODES;
-
-// The kind of the line that is answered, as a number to write.
-const KIND: u64 = KIND_ANSWER as u64;
+use limits::POINT_SIZE;
 
 // Puts a number into `size` bytes from a place on.
 fn write_number(output: &mut [u8], at: usize, size: usize, n: u64)
@@ -34,7 +33,7 @@ fn write_number(output: &mut [u8], at: usize, size: usize, n: u64)
 
 // Puts the point at the places x and y into 16 bytes.
 fn write_point(output: &mut [u8], at: usize, x: u32, y: u32)
-    requires { ⌜ at + 16 ≤ length (now output) ⌝ }
+    requires { ⌜ at + pointSize ≤ length (now output) ⌝ }
     ensures { λ _. ⌜ now (output .exit) ≡ sets (now (output .entry)) at (placeBytes x y) ⌝ }
 {
     write_number(output, at, 8, grid::write_place(x));
@@ -50,15 +49,15 @@ pub fn write_line(
     output: &mut [u8],
 )
     requires nodes { ⌜ NodeList mostNodes lineRoom (now line) count ⌝ }
-    requires room { ⌜ 6 + 16 * count ≤ length (now output) ⌝ }
+    requires room { ⌜ headSize + pointSize * count ≤ length (now output) ⌝ }
     ensures { λ _. ⌜ now (output .exit) ≡ inFront (lineRecord (pointsIn (now (xs .entry)) (now (ys .entry)) (now (line .entry)) count)) (now (output .entry)) ⌝ }
 {
-    write_number(output, 0, 4, 16 * count as u64);
-    write_number(output, 4, 2, KIND);
+    write_number(output, 0, 4, (POINT_SIZE * count) as u64);
+    write_number(output, 4, 2, KIND_ANSWER as u64);
     let mut i = 0;
     while i < count {
         let v = widen::wide(line[i]);
-        write_point(output, 6 + 16 * i, xs[v], ys[v]);
+        write_point(output, HEAD_SIZE + POINT_SIZE * i, xs[v], ys[v]);
         i += 1;
     }
 }

@@ -19,6 +19,9 @@ mul-write-number c = search needs
 write-number-requires : tie.Need-write-number-requires Inv-loop μ-loop
 write-number-requires c κs = search needs
 
+cast-write-number : tie.Need-cast-write-number Inv-loop μ-loop
+cast-write-number c = search needs
+
 write-number-requires-2 : tie.Need-write-number-requires-2 Inv-loop μ-loop
 write-number-requires-2 c κs = search needs
 
@@ -78,6 +81,7 @@ write-line-spec =
     μ-loop
     mul-write-number
     write-number-requires
+    cast-write-number
     write-number-requires-2
     loop-holds
     mul-wide

@@ -5,6 +5,7 @@ use native.Mathlib.Omega.{arith}
 use lib.ListN.{length}
 use borrow.Author.Tests.{not-true, not-false}
 use Rattle.file_records.proofs.Walk.{room}
+use Rattle.file_reader.proofs.Part.{behind-is}
 use Rattle.file_checks.proofs.CoordinatesLaws.{Checking, check-start, check-on, check-off, check-end, body-fits}
 use Rattle.file_checks.proofs.coordinates.coordinates_fit.Statement.{statement}
 use Rattle.file_checks.proofs.coordinates.coordinates_fit.Tie as tie
@@ -18,32 +19,26 @@ abbrev μ-loop : tie.MeasureT-loop
 loop-holds : tie.Need-loop-holds Inv-loop μ-loop
 loop-holds c = check-start (c .before .args .file .now) (c .before .pre .0) (c .before .pre .1)
 
-size-at-requires : tie.Need-size-at-requires Inv-loop μ-loop
-size-at-requires c κs = omega (arith, room (c .before .before .before .args .file .now) (c .before .loop .at) (c .loop-test .taken) (c .before .loop .inv .is-whole))
-
 kind-at-requires : tie.Need-kind-at-requires Inv-loop μ-loop
-kind-at-requires c κs = omega (arith, room (c .before .before .before .before .args .file .now) (c .before .before .loop .at) (c .before .loop-test .taken) (c .before .before .loop .inv .is-whole))
+kind-at-requires c κs = omega (arith, room (c .before .before .before .args .file .now) (c .before .loop .at) (c .loop-test .taken) (c .before .loop .inv .is-whole))
 
 body-of-requires : tie.Need-body-of-requires Inv-loop μ-loop
 body-of-requires c κs = tt
 
 body-on-grid-requires : tie.Need-body-on-grid-requires Inv-loop μ-loop
-body-on-grid-requires c κs = body-fits (c .before .before .before .before .before .before .args .file .now) (c .before .before .before .before .loop .at) _ _ _ (c .before .before .before .before .loop .inv) (c .before .before .before .loop-test .taken) (c .before .kind-at .ensures) (c .before .before .size-at .ensures) (c .body-of .ensures)
+body-on-grid-requires c κs = body-fits (c .before .before .before .before .before .args .file .now) (c .before .before .before .loop .at) _ _ (c .before .before .before .loop .inv) (c .before .before .loop-test .taken) (c .before .kind-at .ensures) (c .body-of .ensures)
 
 returns : tie.Need-returns Inv-loop μ-loop
-returns c = check-off (c .before .before .before .before .before .before .before .before .args .file .now) (c .before .before .before .before .before .before .loop .at) _ _ _ (c .before .before .before .before .before .before .loop .inv) (c .before .before .before .before .before .loop-test .taken) (c .before .before .before .kind-at .ensures) (c .before .before .before .before .size-at .ensures) (c .before .before .body-of .ensures) (sym (c .before .body-on-grid .ensures) ∙ not-true _ (c .if1 .taken))
+returns c = check-off (c .before .before .before .before .before .before .before .args .file .now) (c .before .before .before .before .before .loop .at) _ _ (c .before .before .before .before .before .loop .inv) (c .before .before .before .before .loop-test .taken) (c .before .before .before .kind-at .ensures) (c .before .before .body-of .ensures) (sym (c .before .body-on-grid .ensures) ∙ not-true _ (c .if1 .taken))
 
-add-at : tie.Need-add-at Inv-loop μ-loop
-add-at c = omega (arith, room (c .before .before .before .before .before .before .before .before .args .file .now) (c .before .before .before .before .before .before .loop .at) (c .before .before .before .before .before .loop-test .taken) (c .before .before .before .before .before .before .loop .inv .is-whole))
-
-add-at-2 : tie.Need-add-at-2 Inv-loop μ-loop
-add-at-2 c = omega (arith, room (c .before .before .before .before .before .before .before .before .args .file .now) (c .before .before .before .before .before .before .loop .at) (c .before .before .before .before .before .loop-test .taken) (c .before .before .before .before .before .before .loop .inv .is-whole))
+place-behind-requires : tie.Need-place-behind-requires Inv-loop μ-loop
+place-behind-requires c κs = tt
 
 loop-less : tie.Need-loop-less Inv-loop μ-loop
-loop-less c = omega arith
+loop-less c = omega (arith, c .place-behind .ensures, behind-is (c .before .before .before .before .before .before .before .before .args .file .now) (c .before .before .before .before .before .before .loop .at) (c .before .before .before .before .before .loop-test .taken) (c .before .before .before .before .before .before .loop .inv .is-whole))
 
 loop-again : tie.Need-loop-again Inv-loop μ-loop
-loop-again c = check-on (c .before .before .before .before .before .before .before .before .args .file .now) (c .before .before .before .before .before .before .loop .at) _ _ _ (c .before .before .before .before .before .before .loop .inv) (c .before .before .before .before .before .loop-test .taken) (c .before .before .before .kind-at .ensures) (c .before .before .before .before .size-at .ensures) (c .before .before .body-of .ensures) (sym (c .before .body-on-grid .ensures) ∙ not-false _ (c .if1 .left))
+loop-again c = check-on (c .before .before .before .before .before .before .before .before .args .file .now) (c .before .before .before .before .before .before .loop .at) _ _ (c .before .before .before .before .before .before .loop .inv) (c .before .before .before .before .before .loop-test .taken) (c .before .before .before .before .kind-at .ensures) (c .before .before .before .body-of .ensures) (sym (c .before .before .body-on-grid .ensures) ∙ not-false _ (c .before .if1 .left)) _ (c .place-behind .ensures)
 
 returns-2 : tie.Need-returns-2 Inv-loop μ-loop
 returns-2 c = check-end (c .before .before .before .args .file .now) (c .before .loop .at) (c .before .loop .inv) (c .loop-test .left)
@@ -55,13 +50,11 @@ coordinates-fit-spec =
     Inv-loop
     μ-loop
     loop-holds
-    size-at-requires
     kind-at-requires
     body-of-requires
     body-on-grid-requires
     returns
-    add-at
-    add-at-2
+    place-behind-requires
     loop-less
     loop-again
     returns-2)

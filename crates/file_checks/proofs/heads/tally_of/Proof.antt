@@ -3,6 +3,7 @@ use Prim.Native.Nat.{_-_}
 use native.Mathlib.Omega.{arith}
 use lib.ListN.{length}
 use Rattle.file_records.proofs.Walk.{room}
+use Rattle.file_reader.proofs.Part.{behind-is}
 use Rattle.file_checks.proofs.TallyLaws.{Counting, count-none, count-on, count-end}
 use Rattle.file_checks.proofs.heads.tally_of.Statement.{statement}
 use Rattle.file_checks.proofs.heads.tally_of.Tie as tie
@@ -32,17 +33,14 @@ counted-requires c κs =
     let n = c .before .size-at .ensures in
     (omega arith, omega arith, omega arith)
 
-add-at : tie.Need-add-at Inv-loop μ-loop
-add-at c = omega (arith, room (c .before .before .before .before .before .before .before .args .file .now) (c .before .before .before .before .loop .at) (c .before .before .before .loop-test .taken) (c .before .before .before .before .loop .inv .is-whole))
-
-add-at-2 : tie.Need-add-at-2 Inv-loop μ-loop
-add-at-2 c = omega (arith, room (c .before .before .before .before .before .before .before .args .file .now) (c .before .before .before .before .loop .at) (c .before .before .before .loop-test .taken) (c .before .before .before .before .loop .inv .is-whole))
+place-behind-requires : tie.Need-place-behind-requires Inv-loop μ-loop
+place-behind-requires c κs = tt
 
 loop-less : tie.Need-loop-less Inv-loop μ-loop
-loop-less c = omega arith
+loop-less c = omega (arith, c .place-behind .ensures, behind-is (c .before .before .before .before .before .before .before .before .args .file .now) (c .before .before .before .before .before .loop .at) (c .before .before .before .before .loop-test .taken) (c .before .before .before .before .before .loop .inv .is-whole))
 
 loop-again : tie.Need-loop-again Inv-loop μ-loop
-loop-again c = count-on (c .before .before .before .before .before .before .before .args .file .now) (c .before .before .before .before .loop .at) (c .before .before .before .before .loop .t) _ _ _ (c .before .before .before .before .loop .inv) (c .before .before .before .loop-test .taken) (c .before .kind-at .ensures) (c .before .before .size-at .ensures) (c .counted .ensures)
+loop-again c = count-on (c .before .before .before .before .before .before .before .before .args .file .now) (c .before .before .before .before .before .loop .at) (c .before .before .before .before .before .loop .t) _ _ _ (c .before .before .before .before .before .loop .inv) (c .before .before .before .before .loop-test .taken) (c .before .before .kind-at .ensures) (c .before .before .before .size-at .ensures) (c .before .counted .ensures) _ (c .place-behind .ensures)
 
 returns : tie.Need-returns Inv-loop μ-loop
 returns c = count-end (c .before .before .before .before .args .file .now) (c .before .loop .at) _ (c .before .loop .inv) (c .loop-test .left)
@@ -58,8 +56,7 @@ tally-of-spec =
     size-at-requires
     kind-at-requires
     counted-requires
-    add-at
-    add-at-2
+    place-behind-requires
     loop-less
     loop-again
     returns)

@@ -2,7 +2,7 @@
 use Prim.Native.Nat.{_-_}
 use native.Mathlib.Omega.{arith}
 use Rattle.file_drawing.specs.Lines.{arrays}
-use Rattle.file_drawing.proofs.LinesLaws.{Filling, fill-start, fill-on, fill-end, within, has-room, ends-inside}
+use Rattle.file_drawing.proofs.LinesLaws.{Filling, fill-start, fill-on, fill-end, within, has-room}
 use Rattle.file_drawing.proofs.arrays.fill_lines.Statement.{statement}
 use Rattle.file_drawing.proofs.arrays.fill_lines.Tie as tie
 
@@ -42,20 +42,14 @@ mul-starts c = omega (arith, c .before .before .before .before .before .before .
 element-write-starts : tie.Need-element-write-starts Inv-loop μ-loop
 element-write-starts c = omega (arith, c .before .before .before .before .before .before .before .before .before .pre .few-lines)
 
-mul-at : tie.Need-mul-at Inv-loop μ-loop
-mul-at c = omega (arith, ends-inside (c .before .before .before .before .before .before .before .before .before .args .file .now) (c .before .before .before .before .before .before .before .before .before .args .start) (c .before .before .before .before .before .before .before .before .before .args .count) (arrays (c .before .before .before .before .before .before .before .before .before .args .starts .now) (c .before .before .before .before .before .before .before .before .before .args .xs .now) (c .before .before .before .before .before .before .before .before .before .args .ys .now)) (c .before .before .before .before .before .before .before .loop .at) (c .before .before .before .before .before .before .before .loop .line) (c .before .before .before .before .before .before .before .loop .filled) (c .before .before .before .before .before .before .before .loop .starts) (c .before .before .before .before .before .before .before .loop .xs) (c .before .before .before .before .before .before .before .loop .ys) (c .before .before .before .before .before .before .before .loop .inv) (c .before .before .before .before .before .before .loop-test .taken) (c .before .before .before .before .before .record-at .result) (c .before .before .before .before .before .record-at .ensures) (c .before .before .before .before .points-of .result) (c .before .before .before .before .points-of .ensures) _ (c .before .before .before .body-of .ensures))
-
-add-at : tie.Need-add-at Inv-loop μ-loop
-add-at c = omega (arith, ends-inside (c .before .before .before .before .before .before .before .before .before .args .file .now) (c .before .before .before .before .before .before .before .before .before .args .start) (c .before .before .before .before .before .before .before .before .before .args .count) (arrays (c .before .before .before .before .before .before .before .before .before .args .starts .now) (c .before .before .before .before .before .before .before .before .before .args .xs .now) (c .before .before .before .before .before .before .before .before .before .args .ys .now)) (c .before .before .before .before .before .before .before .loop .at) (c .before .before .before .before .before .before .before .loop .line) (c .before .before .before .before .before .before .before .loop .filled) (c .before .before .before .before .before .before .before .loop .starts) (c .before .before .before .before .before .before .before .loop .xs) (c .before .before .before .before .before .before .before .loop .ys) (c .before .before .before .before .before .before .before .loop .inv) (c .before .before .before .before .before .before .loop-test .taken) (c .before .before .before .before .before .record-at .result) (c .before .before .before .before .before .record-at .ensures) (c .before .before .before .before .points-of .result) (c .before .before .before .before .points-of .ensures) _ (c .before .before .before .body-of .ensures))
-
-add-at-2 : tie.Need-add-at-2 Inv-loop μ-loop
-add-at-2 c = omega (arith, ends-inside (c .before .before .before .before .before .before .before .before .before .args .file .now) (c .before .before .before .before .before .before .before .before .before .args .start) (c .before .before .before .before .before .before .before .before .before .args .count) (arrays (c .before .before .before .before .before .before .before .before .before .args .starts .now) (c .before .before .before .before .before .before .before .before .before .args .xs .now) (c .before .before .before .before .before .before .before .before .before .args .ys .now)) (c .before .before .before .before .before .before .before .loop .at) (c .before .before .before .before .before .before .before .loop .line) (c .before .before .before .before .before .before .before .loop .filled) (c .before .before .before .before .before .before .before .loop .starts) (c .before .before .before .before .before .before .before .loop .xs) (c .before .before .before .before .before .before .before .loop .ys) (c .before .before .before .before .before .before .before .loop .inv) (c .before .before .before .before .before .before .loop-test .taken) (c .before .before .before .before .before .record-at .result) (c .before .before .before .before .before .record-at .ensures) (c .before .before .before .before .points-of .result) (c .before .before .before .before .points-of .ensures) _ (c .before .before .before .body-of .ensures))
+place-behind-requires : tie.Need-place-behind-requires Inv-loop μ-loop
+place-behind-requires c κs = tt
 
 loop-less : tie.Need-loop-less Inv-loop μ-loop
 loop-less c = omega arith
 
 loop-again : tie.Need-loop-again Inv-loop μ-loop
-loop-again c = fill-on (c .before .before .before .before .before .before .before .before .before .args .file .now) (c .before .before .before .before .before .before .before .before .before .args .start) (c .before .before .before .before .before .before .before .before .before .args .count) (arrays (c .before .before .before .before .before .before .before .before .before .args .starts .now) (c .before .before .before .before .before .before .before .before .before .args .xs .now) (c .before .before .before .before .before .before .before .before .before .args .ys .now)) (c .before .before .before .before .before .before .before .loop .at) (c .before .before .before .before .before .before .before .loop .line) (c .before .before .before .before .before .before .before .loop .filled) (c .before .before .before .before .before .before .before .loop .starts) (c .before .before .before .before .before .before .before .loop .xs) (c .before .before .before .before .before .before .before .loop .ys) (c .before .before .before .before .before .before .before .loop .inv) (c .before .before .before .before .before .before .loop-test .taken) (c .before .before .before .before .before .record-at .result) (c .before .before .before .before .before .record-at .ensures) (c .before .before .before .before .points-of .result) (c .before .before .before .before .points-of .ensures) _ (c .before .before .before .body-of .ensures) _ _ (c .fill-points .ensures .0) (c .fill-points .ensures .1)
+loop-again c = fill-on (c .before .before .before .before .before .before .before .before .before .before .args .file .now) (c .before .before .before .before .before .before .before .before .before .before .args .start) (c .before .before .before .before .before .before .before .before .before .before .args .count) (arrays (c .before .before .before .before .before .before .before .before .before .before .args .starts .now) (c .before .before .before .before .before .before .before .before .before .before .args .xs .now) (c .before .before .before .before .before .before .before .before .before .before .args .ys .now)) (c .before .before .before .before .before .before .before .before .loop .at) (c .before .before .before .before .before .before .before .before .loop .line) (c .before .before .before .before .before .before .before .before .loop .filled) (c .before .before .before .before .before .before .before .before .loop .starts) (c .before .before .before .before .before .before .before .before .loop .xs) (c .before .before .before .before .before .before .before .before .loop .ys) (c .before .before .before .before .before .before .before .before .loop .inv) (c .before .before .before .before .before .before .before .loop-test .taken) (c .before .before .before .before .before .before .record-at .result) (c .before .before .before .before .before .before .record-at .ensures) (c .before .before .before .before .before .points-of .result) (c .before .before .before .before .before .points-of .ensures) _ (c .before .before .before .before .body-of .ensures) _ _ (c .before .fill-points .ensures .0) (c .before .fill-points .ensures .1) _ (c .place-behind .ensures)
 
 returns : tie.Need-returns Inv-loop μ-loop
 returns c = fill-end (c .before .before .before .args .file .now) (c .before .before .before .args .start) (c .before .before .before .args .count) (arrays (c .before .before .before .args .starts .now) (c .before .before .before .args .xs .now) (c .before .before .before .args .ys .now)) (c .before .loop .at) (c .before .loop .line) (c .before .loop .filled) (c .before .loop .starts) (c .before .loop .xs) (c .before .loop .ys) (c .before .loop .inv) (c .loop-test .left)
@@ -76,9 +70,7 @@ fill-lines-spec =
     cast-starts
     mul-starts
     element-write-starts
-    mul-at
-    add-at
-    add-at-2
+    place-behind-requires
     loop-less
     loop-again
     returns)

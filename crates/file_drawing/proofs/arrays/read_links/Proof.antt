@@ -1,7 +1,7 @@
 -- `file_drawing::arrays::read_links` meets its contract: its loop keeps `Linking`. Assumes nothing.
 use Prim.Native.Nat.{_-_}
 use native.Mathlib.Omega.{arith}
-use Rattle.file_drawing.proofs.LinksLaws.{Linking, link-start, link-on, link-end, link-room}
+use Rattle.file_drawing.proofs.LinksLaws.{Linking, link-start, link-on, link-end}
 use Rattle.file_drawing.proofs.arrays.read_links.Statement.{statement}
 use Rattle.file_drawing.proofs.arrays.read_links.Tie as tie
 
@@ -26,8 +26,8 @@ mul-edges c = omega (arith, c .before .before .before .before .before .pre .few-
 array-set-from-edges : tie.Need-array-set-from-edges Inv-loop μ-loop
 array-set-from-edges c = omega (arith, c .before .before .before .before .before .pre .few-links)
 
-add-at : tie.Need-add-at Inv-loop μ-loop
-add-at c = omega (arith, link-room (c .before .before .before .before .before .args .file .now) (c .before .before .before .before .before .args .start) (c .before .before .before .before .before .args .count) (c .before .before .loop .at) (c .before .before .loop .link) (c .before .before .loop .edges) (c .before .before .loop .inv) (c .before .loop-test .taken))
+place-behind-requires : tie.Need-place-behind-requires Inv-loop μ-loop
+place-behind-requires c κs = tt
 
 add-link : tie.Need-add-link Inv-loop μ-loop
 add-link c = omega arith
@@ -36,7 +36,7 @@ loop-less : tie.Need-loop-less Inv-loop μ-loop
 loop-less c = omega arith
 
 loop-again : tie.Need-loop-again Inv-loop μ-loop
-loop-again c = link-on (c .before .before .before .before .before .args .file .now) (c .before .before .before .before .before .args .start) (c .before .before .before .before .before .args .count) (c .before .before .loop .at) (c .before .before .loop .link) (c .before .before .loop .edges) (c .before .before .loop .inv) (c .before .loop-test .taken) _ (c .link-of .ensures)
+loop-again c = link-on (c .before .before .before .before .before .before .args .file .now) (c .before .before .before .before .before .before .args .start) (c .before .before .before .before .before .before .args .count) (c .before .before .before .loop .at) (c .before .before .before .loop .link) (c .before .before .before .loop .edges) (c .before .before .before .loop .inv) (c .before .before .loop-test .taken) _ (c .before .link-of .ensures) _ (c .place-behind .ensures)
 
 returns : tie.Need-returns Inv-loop μ-loop
 returns c = link-end (c .before .before .before .before .args .file .now) (c .before .before .before .before .args .start) (c .before .before .before .before .args .count) (c .before .loop .at) (c .before .loop .link) (c .before .loop .edges) (c .before .loop .inv) (c .loop-test .left)
@@ -52,7 +52,7 @@ read-links-spec =
     link-of-requires
     mul-edges
     array-set-from-edges
-    add-at
+    place-behind-requires
     add-link
     loop-less
     loop-again
