@@ -15,7 +15,7 @@ place-number-requires : tie.Need-place-number-requires
 place-number-requires c κs = search needs
 
 returns : tie.Need-returns
-returns c = c .place-number .ensures ∙ place-read _ (c .before .before .before .pre) _ (c .before .read-place .ensures)
+returns c = c .place-number .ensures ∙ place-read _ (c .before .before .pre) _ (c .before .read-place .ensures)
 
 pub place-of-spec : {M : Type 1} → statement M
 place-of-spec = tie.close (tie.spec float-to-bits-bits read-place-requires place-number-requires returns)
