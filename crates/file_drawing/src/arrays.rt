@@ -104,11 +104,12 @@ pub fn fill_lines(
         let body = found.body;
         let points = points_of(body);
         let part = file_reader::body_of(file, place);
+        let next = file_reader::place_behind(file, place);
         fill_points(part, points, filled, xs, ys);
         filled += points;
         line += 1;
         starts[line] = filled as u16;
-        at = file_reader::place_behind(file, place);
+        at = next;
     }
     at
 }

@@ -25,20 +25,20 @@ kind-at-requires c κs = omega (arith, room (c .before .before .before .args .fi
 body-of-requires : tie.Need-body-of-requires Inv-loop μ-loop
 body-of-requires c κs = tt
 
-body-on-grid-requires : tie.Need-body-on-grid-requires Inv-loop μ-loop
-body-on-grid-requires c κs = body-fits (c .before .before .before .before .before .args .file .now) (c .before .before .before .loop .at) _ _ (c .before .before .before .loop .inv) (c .before .before .loop-test .taken) (c .before .kind-at .ensures) (c .body-of .ensures)
-
-returns : tie.Need-returns Inv-loop μ-loop
-returns c = check-off (c .before .before .before .before .before .before .before .args .file .now) (c .before .before .before .before .before .loop .at) _ _ (c .before .before .before .before .before .loop .inv) (c .before .before .before .before .loop-test .taken) (c .before .before .before .kind-at .ensures) (c .before .before .body-of .ensures) (sym (c .before .body-on-grid .ensures) ∙ not-true _ (c .if1 .taken))
-
 place-behind-requires : tie.Need-place-behind-requires Inv-loop μ-loop
 place-behind-requires c κs = tt
 
+body-on-grid-requires : tie.Need-body-on-grid-requires Inv-loop μ-loop
+body-on-grid-requires c κs = body-fits (c .before .before .before .before .before .before .args .file .now) (c .before .before .before .before .loop .at) _ _ (c .before .before .before .before .loop .inv) (c .before .before .before .loop-test .taken) (c .before .before .kind-at .ensures) (c .before .body-of .ensures)
+
+returns : tie.Need-returns Inv-loop μ-loop
+returns c = check-off (c .before .before .before .before .before .before .before .before .args .file .now) (c .before .before .before .before .before .before .loop .at) _ _ (c .before .before .before .before .before .before .loop .inv) (c .before .before .before .before .before .loop-test .taken) (c .before .before .before .before .kind-at .ensures) (c .before .before .before .body-of .ensures) (sym (c .before .body-on-grid .ensures) ∙ not-true _ (c .if1 .taken))
+
 loop-less : tie.Need-loop-less Inv-loop μ-loop
-loop-less c = omega (arith, c .place-behind .ensures, behind-is (c .before .before .before .before .before .before .before .before .args .file .now) (c .before .before .before .before .before .before .loop .at) (c .before .before .before .before .before .loop-test .taken) (c .before .before .before .before .before .before .loop .inv .is-whole))
+loop-less c = omega (arith, c .before .before .place-behind .ensures, behind-is (c .before .before .before .before .before .before .before .before .args .file .now) (c .before .before .before .before .before .before .loop .at) (c .before .before .before .before .before .loop-test .taken) (c .before .before .before .before .before .before .loop .inv .is-whole))
 
 loop-again : tie.Need-loop-again Inv-loop μ-loop
-loop-again c = check-on (c .before .before .before .before .before .before .before .before .args .file .now) (c .before .before .before .before .before .before .loop .at) _ _ (c .before .before .before .before .before .before .loop .inv) (c .before .before .before .before .before .loop-test .taken) (c .before .before .before .before .kind-at .ensures) (c .before .before .before .body-of .ensures) (sym (c .before .before .body-on-grid .ensures) ∙ not-false _ (c .before .if1 .left)) _ (c .place-behind .ensures)
+loop-again c = check-on (c .before .before .before .before .before .before .before .before .args .file .now) (c .before .before .before .before .before .before .loop .at) _ _ (c .before .before .before .before .before .before .loop .inv) (c .before .before .before .before .before .loop-test .taken) (c .before .before .before .before .kind-at .ensures) (c .before .before .before .body-of .ensures) (sym (c .before .body-on-grid .ensures) ∙ not-false _ (c .if1 .left)) _ (c .before .before .place-behind .ensures)
 
 returns-2 : tie.Need-returns-2 Inv-loop μ-loop
 returns-2 c = check-end (c .before .before .before .args .file .now) (c .before .loop .at) (c .before .loop .inv) (c .loop-test .left)
@@ -52,9 +52,9 @@ coordinates-fit-spec =
     loop-holds
     kind-at-requires
     body-of-requires
+    place-behind-requires
     body-on-grid-requires
     returns
-    place-behind-requires
     loop-less
     loop-again
     returns-2)
