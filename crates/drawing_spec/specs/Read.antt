@@ -91,7 +91,7 @@ sketchOf rs = record {
 abbrev pub placed : Pattern → ℕ
 placed w = placeAt (readPlace (w .bits))
 
--- the drawing that a sketch is, once check 7 has passed
+-- the drawing of a file's records: its sketch with each coordinate placed
 unfoldable pub drawingOf : List Record → Drawing
 unfolding sketchOf over readOnGrid
 drawingOf rs = over placed (sketchOf rs)
@@ -113,7 +113,7 @@ unfoldable pub linkOf : List ℕ → Link
 unfolding sketchedLink readOnGrid
 linkOf bs = overLink placed (sketchedLink bs)
 
--- ---- the checks, as conditions that have to hold
+-- ---- the checks: what passes them
 
 unfoldable pub every : {A : Type 0} → (A → Bool) → List A → Bool
 every f [] = true

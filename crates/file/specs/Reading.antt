@@ -12,7 +12,7 @@ use Rattle.file_drawing.specs.Held.{drawingHeld}
 
 -- ---- what is answered
 
--- document 01's number for each case of `Verdict`
+-- `Verdict` for each of document 01's verdicts, with its number
 abbrev pub verdictFrom : refusal.Verdict → Verdict
 verdictFrom (refusal.refused n) = Refused n
 verdictFrom refusal.accepted = Accepted

@@ -1,4 +1,4 @@
-// The reader of drawing files: for every slice of bytes the first of checks 1 to 8 that holds, or the drawing.
+// The reader of drawing files: for every slice of bytes the number of the first of conditions 1 to 8 that holds, or the drawing.
 //
 // Check 1 is made here, checks 2 to 7 are in `file_checks`, and check 8 and the arrays in `file_drawing`. This crate has the
 // checks in their order and what the reader answers.
@@ -26,7 +26,7 @@ use limits::REFUSED_LENGTHS;
 use limits::REFUSED_LINKS;
 use limits::REFUSED_SETTINGS;
 
-// The reader's answer to a file: the number of the first check that holds, or that none does.
+// The reader's answer to a file: the number of the first condition that holds, or that none does.
 pub enum Verdict {
     Refused(u8),
     Accepted,
@@ -38,7 +38,7 @@ pub struct Reading {
     pub drawing: Drawing,
 }
 
-// The first of the checks before check 8 that holds, and 0 where none does. Each covers the whole file.
+// The number of the first condition before 8 that holds, and 0 where none does. Each covers the whole file.
 fn first_refusal(file: &[u8]) -> u8
     ensures { λ r. ⌜ r ≡ beforeLinks (now (file .entry)) ⌝ }
 {

@@ -8,6 +8,7 @@ use lib.ListN.{length, drop}
 use lib.Seq.{drop-drop}
 use lib.Dec.{eqb}
 use borrow.Author.Tests.{ne-eqb, eqb-true}
+use Rattle.limits.specs.Limits.{kindLine, kindLink}
 use Rattle.grid.specs.Grid.{readPlace, onGrid}
 use Rattle.drawing_spec.specs.Bytes.{number}
 use Rattle.drawing_spec.specs.Drawing.{PointOf, LinkOf, Pattern}
@@ -18,7 +19,7 @@ use Rattle.file_reader.specs.Part.{bodyPart, behindAt}
 use Rattle.file_reader.proofs.Part.{part-is, behind-is}
 use Rattle.file_checks.specs.Tally.{lengthFits}
 use Rattle.file_checks.proofs.TallyLaws.{and-assoc, Kind, first, second, third, none, kind-of, bodies-here, bodies-other, lengths-cons}
-use Rattle.file_checks.specs.Coordinates.{bodyOn, words, wordsOn, coordinatesIn}
+use Rattle.file_checks.specs.Coordinates.{bodyOn, words, wordsOn}
 
 -- ---- what the code computes
 
@@ -38,6 +39,12 @@ row-step file at n h =
     ap (wordsOn file at) e ∙ ap (λ (l : List ℕ). on (number 8 (drop at file)) && every (λ (w : ℕ). onGrid (readPlace w)) (words (n - 1) l)) (drop-drop 8 at file)
 
 -- ---- a record
+
+-- of every record; where each body has the length that its kind asks, this is check 7 of the sketch (`coordinates-are`)
+unfoldable pub coordinatesIn : List Record → Bool
+coordinatesIn rs =
+    every (λ (b : List ℕ). every (λ (w : ℕ). onGrid (readPlace w)) (words (length b / 8) b)) (bodies kindLine rs)
+    && every (λ (b : List ℕ). every (λ (w : ℕ). onGrid (readPlace w)) (words 4 (drop 8 b))) (bodies kindLink rs)
 
 and-swap : (x a b : Bool) → a && (x && b) ≡ x && (a && b)
 and-swap true a b = refl

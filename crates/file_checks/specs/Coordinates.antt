@@ -1,13 +1,13 @@
 -- Check 7, record by record.
 use Prim.Native.Nat.{ℕ, zero, suc, _/_}
 use mathlib.Core.List.{List, [], _∷_}
-use mathlib.Core.Bool.{Bool, true, _&&_, cond}
+use mathlib.Core.Bool.{Bool, true, cond}
 use lib.ListN.{length, drop}
 use lib.Dec.{eqb}
 use Rattle.limits.specs.Limits.{kindLine, kindLink}
 use Rattle.grid.specs.Grid.{readPlace, onGrid}
 use Rattle.drawing_spec.specs.Bytes.{number}
-use Rattle.drawing_spec.specs.Read.{Record, bodies, every}
+use Rattle.drawing_spec.specs.Read.{every}
 
 -- n whole numbers of 8 bytes each
 unfoldable pub words : ℕ → List ℕ → List ℕ
@@ -21,9 +21,3 @@ wordsOn file at n = every (λ (w : ℕ). onGrid (readPlace w)) (words n (drop at
 -- a line's body is coordinates, and so is a link's from its ninth byte on
 abbrev pub bodyOn : ℕ → List ℕ → Bool
 bodyOn k b = cond (eqb k kindLine) (wordsOn b 0 (length b / 8)) (cond (eqb k kindLink) (wordsOn b 8 4) true)
-
--- of every record; where each body has the length that its kind asks, this is check 7 of the sketch (proofs/CoordinatesLaws, `coordinates-are`)
-unfoldable pub coordinatesIn : List Record → Bool
-coordinatesIn rs =
-    every (λ (b : List ℕ). every (λ (w : ℕ). onGrid (readPlace w)) (words (length b / 8) b)) (bodies kindLine rs)
-    && every (λ (b : List ℕ). every (λ (w : ℕ). onGrid (readPlace w)) (words 4 (drop 8 b))) (bodies kindLink rs)

@@ -8,6 +8,6 @@ use Rattle.file_records.specs.Body.{wholeAt}
 unfoldable pub bodyPart : List ℕ → ℕ → List ℕ
 bodyPart file at = cond (wholeAt file at) (bodyAt file at) []
 
--- a reader that no whole record stands before stays where it is
+-- where no record stands whole, the place itself
 unfoldable pub behindAt : List ℕ → ℕ → ℕ
 behindAt file at = cond (wholeAt file at) (nextAt file at) at

@@ -1,7 +1,7 @@
 // The record reader: a struct that refers to the file's bytes, with a place in them. `next` hands out the body of the next
-// record as a part of the file, and the reader behind that record. It is thin and proved by hand; `body_part` and
-// `behind_part`, which do the work, take a plain slice and are covered. A pass over a file keeps the place as a number and goes by
-// `body_of` and `place_behind`.
+// record as a part of the file, and the reader behind that record; `body_of` and `place_behind` do the same from a plain slice and a
+// number, so that a pass over a file keeps its place as a number. These three are thin and proved by hand; `body_part` and `behind_at`,
+// which do the work, take a plain slice and are covered.
 ghost use mathlib.Core.Path.{_≡_};
 ghost use Rattle.file_reader.specs.Part.{bodyPart, behindAt};
 use limits::HEAD_SIZE;
@@ -32,7 +32,7 @@ fn body_part(file: &[u8], at: usize) -> &[u8]
 }
 
 // The place behind the record at a place, and that place itself where none stands there whole.
-fn behind_part(file: &[u8], at: usize) -> usize
+fn behind_at(file: &[u8], at: usize) -> usize
     ensures { λ r. ⌜ r ≡ behindAt (now (file .entry)) at ⌝ }
 {
     if file_records::whole_at(file, at) {
@@ -42,20 +42,21 @@ fn behind_part(file: &[u8], at: usize) -> usize
     at
 }
 
-// The body of the record that the reader stands at, as a part of the file's bytes, and the reader behind that record.
+// The body of the record that the reader stands at, as a part of the file's bytes, and the reader behind that record. Where none
+// stands there whole, the body is empty and the reader stays.
 pub fn next<'a>(r: RecordReader<'a>) -> NextRecord<'a>
     ensures { λ n. ⌜ (now (n .body) ≡ bodyPart (now (r .entry .file)) (r .entry .at)) × (n .behind .file ≡ r .entry .file) × (n .behind .at ≡ behindAt (now (r .entry .file)) (r .entry .at)) ⌝ }
 {
     let body = body_part(r.file, r.at);
-    let at = behind_part(r.file, r.at);
+    let at = behind_at(r.file, r.at);
     NextRecord {
         body,
         behind: RecordReader { file: r.file, at },
     }
 }
 
-// The body of the record at a place of a file, and the place behind it. Their parameters are a plain slice and a number, so
-// whoever calls them needs no proof by hand.
+// The body of the record at a place of a file, and the place behind it; no bytes and the place itself where none stands there whole.
+// Their parameters are a plain slice and a number, so whoever calls them needs no proof by hand.
 pub fn body_of(file: &[u8], at: usize) -> &[u8]
     ensures { λ s. ⌜ now s ≡ bodyPart (now (file .entry)) at ⌝ }
 {

@@ -1,4 +1,4 @@
--- The settings of the definitions, as the code's struct has them.
+-- The settings that the code's struct stands for.
 use Rattle.drawing_spec.specs.Drawing as drawn
 use Rattle.file_records.specs.declared.Settings.{Settings}
 

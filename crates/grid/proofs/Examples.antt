@@ -27,12 +27,12 @@ past-the-grid : map readPlace (0x40B0000040000000 ∷ 0xC0B0000040000000 ∷ 0x7
 unfolding readOnGrid
 past-the-grid = refl
 
--- a place is its own number; what is off the grid is no place of any, down to steps of 1/2048
+-- a place is its own number; what is off the grid is no place of one, down to steps of 1 / 2 ^ 18
 as-numbers : map placeAt (On 0 ∷ On 5 ∷ Off ∷ []) ≡ 0 ∷ 5 ∷ nowhere ∷ []
 as-numbers = refl
 
-past-every-grid : 2 * originOfGrid 11 < nowhere
-past-every-grid = lit< tt
+past-the-grids : 2 * originOfGrid 18 < nowhere
+past-the-grids = lit< tt
 
 tested : map onGrid (On 0 ∷ Off ∷ []) ≡ true ∷ false ∷ []
 tested = refl

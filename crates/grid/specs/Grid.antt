@@ -37,11 +37,11 @@ unfoldable pub readOnGrid : ℕ → ℕ → Place
 unfolding placeOnGrid ofBits
 readOnGrid g b = placeOnGrid g (ofBits binary64 b)
 
--- no place of any grid, since each ends before it: the largest 32-bit number
+-- no place of a grid with steps of 1 / 2 ^ 18 or more, since each of these ends before it: the largest 32-bit number
 abbrev pub nowhere : ℕ
 nowhere = 0xFFFFFFFF
 
--- A place as one number. What is off the grid is nowhere, so that it can't be taken for a place.
+-- A place as one number. What is off the grid is nowhere, so that it can't be taken for a place of the grid.
 abbrev pub placeAt : Place → ℕ
 placeAt (On p) = p
 placeAt Off = nowhere

@@ -1,4 +1,4 @@
--- The limits of document 01, the sizes that follow from them, and the numbers of its refusals, each named once.
+-- The limits of document 01 but for the grid's (crates/grid), the sizes that follow from them, the kinds and lengths of records, and the numbers of refusals, each named once.
 use Prim.Native.Nat.{ℕ, _+_, _*_, _/_}
 
 -- check 1
@@ -55,7 +55,7 @@ mostLinks = 255
 abbrev pub mostOdd : ℕ
 mostOdd = 20
 
--- checks 12 and 13
+-- check 13
 abbrev pub mostEdges : ℕ
 mostEdges = 4000
 

@@ -132,7 +132,7 @@ fn phase_of_drawing(drawing: Drawing, floats: &mut [f64], bytes: &mut [u8], last
     )
 }
 
-// Of a file: the first of checks 1 to 8 that holds, or else what a phase made of its drawing.
+// Of a file: the first of conditions 1 to 8 that holds, or else what a phase made of its drawing.
 fn phase_of_bytes(file: &[u8], floats: &mut [f64], bytes: &mut [u8], last: u32) -> Phase
     ensures { λ r. ⌜ r ≡ phaseOf (now (file .entry)) (length (now (floats .entry))) (length (now (bytes .entry))) last ⌝ }
 {

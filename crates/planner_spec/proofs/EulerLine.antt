@@ -11,6 +11,7 @@ use Rattle.graph_spec.specs.Graph.{buildGraph}
 use Rattle.repair_spec.specs.Repair.{Repair}
 use Rattle.walk_spec.specs.Line.{lineOf}
 use Rattle.walk_spec.proofs.Line.{lineOf-euler, lineOf-none}
+use Rattle.walk_spec.proofs.Traced.{traced}
 use Rattle.planner_spec.specs.LineRecord.{Written}
 use Rattle.planner_spec.specs.Demand3.{Demand3}
 use Rattle.planner_spec.specs.EulerLine.{EulerWritten}
@@ -35,6 +36,7 @@ module _ (d : Drawing) (limits : InLimits d) (lent : Lent) (answer : Planned) (D
         line = line d r;
         written = here;
         way = [];
+        nodes = tt;
         points = ap (λ (ns : List Point). lineOf (d .settings) ns (r .edges)) e ∙ lineOf-none (d .settings) (r .edges);
         repair = r;
         repairs = D .repairs;
@@ -43,7 +45,16 @@ module _ (d : Drawing) (limits : InLimits d) (lent : Lent) (answer : Planned) (D
       go (p ∷ ps) e =
           let h : 0 < length (buildGraph d .nodes) = rw e (zero-lt-suc (length ps)) in
           let E = lineOf-euler (d .settings) (buildGraph d .nodes) (r .edges) (euler-line d r (F d limits lent answer D) (near d limits lent answer D) h) in
-          record { line = line d r; written = here; way = E .way; points = E .points; repair = r; repairs = D .repairs; euler = inl (E .euler) }
+          record {
+            line = line d r;
+            written = here;
+            way = E .way;
+            points = E .points;
+            nodes = traced (length (buildGraph d .nodes)) (r .edges) (E .way) (F d limits lent answer D .copied .inside) (E .euler) .within;
+            repair = r;
+            repairs = D .repairs;
+            euler = inl (E .euler);
+          }
 
 -- Of every drawing in limits that is accepted, whatever is lent,
 pub drawing-euler : (d : Drawing) → InLimits d → (lent : Lent) (answer : Planned) → planDrawing d lent .answer ≡ planned answer → EulerWritten d (lent .output) (planDrawing d lent .output)

@@ -1,4 +1,4 @@
--- `file_reader::next` meets its contract: a walk of its MIR, by hand. The struct is taken apart, and `body_part` and `behind_part` are called on the slice and the number; the result is made of the part, and of a reader at the same slice with the place behind. All that the proof knows of the two is that each meets its contract.
+-- `file_reader::next` meets its contract: a walk of its MIR, by hand. The struct is taken apart, and `body_part` and `behind_at` are called on the slice and the number; the result is made of the part, and of a reader at the same slice with the place behind. All that the proof knows of the two is that each meets its contract.
 -- The struct is Copy: what it owns is had as often as it is asked. One copy is kept whole for the exit, what file owns goes to each callee, beside the lifetime's token, which comes back, and one copy, with the facts of the place behind in the place of at's, is what the reader in the result owns.
 -- Assumes nothing.
 use mathlib.Core.Path.{_≡_, refl, ap}
@@ -54,10 +54,10 @@ use Rattle.file_reader.proofs.body_part as part
 use Rattle.file_reader.proofs.body_part.Symbol as part-def
 use Rattle.file_reader.proofs.body_part.Symbol.{name as #file_reader·body-part}
 use Rattle.file_reader.proofs.body_part.Met as part-thm
-use Rattle.file_reader.proofs.behind_part as behind
-use Rattle.file_reader.proofs.behind_part.Symbol as behind-def
-use Rattle.file_reader.proofs.behind_part.Symbol.{name as #file_reader·behind-part}
-use Rattle.file_reader.proofs.behind_part.Met as behind-thm
+use Rattle.file_reader.proofs.behind_at as behind
+use Rattle.file_reader.proofs.behind_at.Symbol as behind-def
+use Rattle.file_reader.proofs.behind_at.Symbol.{name as #file_reader·behind-at}
+use Rattle.file_reader.proofs.behind_at.Met as behind-thm
 use Rattle.file_reader.proofs.next.Key.{name as #file_reader·next}
 use Rattle.file_reader.proofs.next as next
 use Rattle.file_reader.proofs.next.Statement as stated
@@ -79,8 +79,8 @@ module _ {M : Type 1} (𝓤 : URA M) (H : Heap 𝓤) (A : Atoms 𝓤) (mem : Mem
   abbrev BodyPart : Contract 𝓤
   BodyPart = tripleOf 𝓤 H A part.signature (part.spec 𝓤 H A mem run)
 
-  abbrev BehindPart : Contract 𝓤
-  BehindPart = tripleOf 𝓤 H A behind.signature (behind.spec 𝓤 H A mem run)
+  abbrev BehindAt : Contract 𝓤
+  BehindAt = tripleOf 𝓤 H A behind.signature (behind.spec 𝓤 H A mem run)
 
 module _ {M : Type 1} (𝓤 : URA M) (H : Heap 𝓤) (A : Atoms 𝓤) (W : Given 𝓤 H A) (mem : Memory → SProp 𝓤) (run : Routine → Fun 𝓤) (κ : Lft) (q : Share) (d : RecordReader) where
   abbrev α : NamedLft
@@ -132,13 +132,13 @@ module _ {M : Type 1} (𝓤 : URA M) (H : Heap 𝓤) (A : Atoms 𝓤) (W : Given
   abbrev to : BodyPart 𝓤 H A mem run .Ghost
   to = (((κ, tt), (q, tt), tt, (d .file, (d .at, tt)), passed), tt)
 
-  abbrev to-behind : BehindPart 𝓤 H A mem run .Ghost
+  abbrev to-behind : BehindAt 𝓤 H A mem run .Ghost
   to-behind = (((κ, tt), (q, tt), tt, (d .file, (d .at, tt)), passed), tt)
 
   asked : ent 𝓤 (⋆ 𝓤 H A ((‵ (flft κ q) ⊛ ‵ ftrue) ∷ ‵ Fields ∷ [])) (BodyPart 𝓤 H A mem run .pre to)
   asked = qed W ((‵ (flft κ q) ⊛ ‵ ftrue) ∷ ‵ Fields ∷ []) ∵ join ! $ frame ! $ done !
 
-  asked-behind : ent 𝓤 (⋆ 𝓤 H A ((‵ (flft κ q) ⊛ ‵ ftrue) ∷ ‵ Fields ∷ [])) (BehindPart 𝓤 H A mem run .pre to-behind)
+  asked-behind : ent 𝓤 (⋆ 𝓤 H A ((‵ (flft κ q) ⊛ ‵ ftrue) ∷ ‵ Fields ∷ [])) (BehindAt 𝓤 H A mem run .pre to-behind)
   asked-behind = qed W ((‵ (flft κ q) ⊛ ‵ ftrue) ∷ ‵ Fields ∷ []) ∵ join ! $ frame ! $ done !
 
   -- what the reader owns gives what its fields own, and is kept
@@ -167,7 +167,7 @@ module _ {M : Type 1} (𝓤 : URA M) (H : Heap 𝓤) (A : Atoms 𝓤) (W : Given
       owned ! usize (Is usize) (uint-makes 𝓤 H A W w64) n _ (refl, fits) $ move ! (1 ∷ 0 ∷ []) $ use2 W (‵ (B (κ, tt) .own (moved n) (T′.lowered (moved n) ∷ []))) (own-put 𝓤 H A W D L 1 vd n mach) $
       nothing ! $ move ! (1 ∷ 0 ∷ []) $ fjoin ! $ move ! (1 ∷ 0 ∷ []) $ fjoin ! $ by ! (own-shut 𝓤 H A W (N.the-type α) (N′.the-laws α) (s, (moved n, tt)))
 
-  module _ (C : Calls 𝓤 H) (Λ : Loops 𝓤 H) (fm : FmC 𝓤 H (W .laws) C) (known : Triple 𝓤 (C #file_reader·body-part) (BodyPart 𝓤 H A mem run)) (known-behind : Triple 𝓤 (C #file_reader·behind-part) (BehindPart 𝓤 H A mem run)) where
+  module _ (C : Calls 𝓤 H) (Λ : Loops 𝓤 H) (fm : FmC 𝓤 H (W .laws) C) (known : Triple 𝓤 (C #file_reader·body-part) (BodyPart 𝓤 H A mem run)) (known-behind : Triple 𝓤 (C #file_reader·behind-at) (BehindAt 𝓤 H A mem run)) where
     walk : Holds (hasTy (T′.mir (named 0)) mach) × WT mach → ent 𝓤 (onEntry 𝓤 H A next.signature (κ, tt) (q, tt) (d, tt) (mach ∷ [], tt)) (WpFn 𝓤 H C Λ code.function (mach ∷ []) Post)
     walk wt =
         qed W ((‵ (flft κ q) ⊛ ‵ ftrue) ∷ ‵ (owns (B (κ, tt) ∷ []) (d, tt) (mach ∷ [], tt)) ∷ []) ∵ enter ! C Λ code.function (mach ∷ []) _ $
@@ -188,9 +188,9 @@ module _ {M : Type 1} (𝓤 : URA M) (H : Heap 𝓤) (A : Atoms 𝓤) (W : Given
         assigns ! (of-opd ! (load ! (from ! (fld ! refl (stop !))) (look-in ! 19 (sub ! 0 refl (whole !))))) (from ! (stop !)) (init ! 9 refl (tt, wt .1 .0)) $
         assigns ! (of-opd ! (load ! (from ! (fld ! refl (stop !))) (look-in ! 19 (sub ! 1 refl (whole !))))) (from ! (stop !)) (init ! 7 refl (tt, wt .1 .1 .0)) $
         move ! (2 ∷ []) $ use1 W (‵ Fields ⊛ ‵ Own) (apart (wt .1 .1 .0 .fits)) $ split ! $
-        move ! (3 ∷ 0 ∷ []) $ use2 W (raw (BehindPart 𝓤 H A mem run .pre to-behind)) asked-behind $
-        -- [what `behind_part` asks; what the reader owns; the part; _9; …; room for _0; …]
-        calls-at ! fm (BehindPart 𝓤 H A mem run) known-behind to-behind (and-then ! (load ! (from ! (stop !)) (look ! 9 refl)) (and-then ! (load ! (from ! (stop !)) (look ! 7 refl)) (no-more !))) (λ u′.
+        move ! (3 ∷ 0 ∷ []) $ use2 W (raw (BehindAt 𝓤 H A mem run .pre to-behind)) asked-behind $
+        -- [what `behind_at` asks; what the reader owns; the part; _9; …; room for _0; …]
+        calls-at ! fm (BehindAt 𝓤 H A mem run) known-behind to-behind (and-then ! (load ! (from ! (stop !)) (look ! 9 refl)) (and-then ! (load ! (from ! (stop !)) (look ! 7 refl)) (no-more !))) (λ u′.
         use1 W (later (some (λ (n : ℕ). ((‵ (flft κ q) ⊛ ‵ ftrue) ⊛ ‵ (usize .own n (u′ ∷ []))) ⊛ raw (ensured 𝓤 H A behind.ended (behind.clauses 𝓤 H A mem run) (κ, tt) (d .file, (d .at, tt)) tt n)))) (id⊢ 𝓤 _) $ await ! tt $ pick ! (λ n.
         split ! $ move ! (1 ∷ []) $ use1 W (raw (fact 𝓤 (n ≡ place))) (said-behind n) $ heard ! (n ≡ place) (λ i. split ! $ move ! (1 ∷ []) $
         -- [the place behind; the token; what the reader owns; the part; _9; …; room for _0; …]
@@ -207,13 +207,13 @@ module _ {M : Type 1} (𝓤 : URA M) (H : Heap 𝓤) (A : Atoms 𝓤) (W : Given
         by ! (exits s n e i (is′ .1))))))))))))))))))))
 
 module _ {M : Type 1} (𝓤 : URA M) (H : Heap 𝓤) (A : Atoms 𝓤) (W : Given 𝓤 H A) (mem : Memory → SProp 𝓤) (run : Routine → Fun 𝓤) where
-  next-walks : (C : Calls 𝓤 H) (Λ : Loops 𝓤 H) → FmC 𝓤 H (W .laws) C → Triple 𝓤 (C #file_reader·body-part) (BodyPart 𝓤 H A mem run) → Triple 𝓤 (C #file_reader·behind-part) (BehindPart 𝓤 H A mem run)
+  next-walks : (C : Calls 𝓤 H) (Λ : Loops 𝓤 H) → FmC 𝓤 H (W .laws) C → Triple 𝓤 (C #file_reader·body-part) (BodyPart 𝓤 H A mem run) → Triple 𝓤 (C #file_reader·behind-at) (BehindAt 𝓤 H A mem run)
       → Walks 𝓤 H A next.ended stayed (WpFn 𝓤 H C Λ code.function) (next.clauses 𝓤 H A mem run)
   next-walks C Λ fm known known-behind = walked 𝓤 H A next.ended stayed (next.clauses 𝓤 H A mem run) (WpFn 𝓤 H C Λ code.function) (λ κs. (LL.vals (T.the-type (namedLft 1 0 tt κs)) (T′.the-laws (namedLft 1 0 tt κs)), tt)) (λ κs. (LL.tells (T.the-type (namedLft 1 0 tt κs)) (T′.the-laws (namedLft 1 0 tt κs)), tt))
       (λ κs qs bounds a g are. via 𝓤 _ (fst∗ 𝓤 _ (emp 𝓤)) (walk 𝓤 H A W mem run (κs .0) (qs .0) (a .0) C Λ fm known known-behind (LL.lawful (T.the-type (namedLft 1 0 tt κs)) (T′.the-laws (namedLft 1 0 tt κs)) 𝓤 H A W .typed (a .0) _ (are .0) .0)))
 
 next-meets : {M : Type 1} (𝓤 : URA M) (H : Heap 𝓤) (A : Atoms 𝓤) (W : Given 𝓤 H A) (mem : Memory → SProp 𝓤) (run : Routine → Fun 𝓤) (𝓣 : Tables 𝓤 H)
-    → Triple 𝓤 (𝓣 .C #file_reader·body-part) (BodyPart 𝓤 H A mem run) → Triple 𝓤 (𝓣 .C #file_reader·behind-part) (BehindPart 𝓤 H A mem run)
+    → Triple 𝓤 (𝓣 .C #file_reader·body-part) (BodyPart 𝓤 H A mem run) → Triple 𝓤 (𝓣 .C #file_reader·behind-at) (BehindAt 𝓤 H A mem run)
     → Meets 𝓤 H A next.signature (WpFn 𝓤 H (𝓣 .C) (𝓣 .Λ) code.function) (next.spec 𝓤 H A mem run)
 next-meets 𝓤 H A W mem run 𝓣 known known-behind = walk-meets 𝓤 H A next.ended stayed W (goes-none 𝓤 H A W 1 B yes (λ κs x f. refl), tt) (next.clauses 𝓤 H A mem run) (WpFn 𝓤 H (𝓣 .C) (𝓣 .Λ) code.function) (WpFn-mono 𝓤 H (W .laws) 𝓣 code.function)
     (next-walks 𝓤 H A W mem run (𝓣 .C) (𝓣 .Λ) (fmOf 𝓤 H (W .laws) 𝓣) known known-behind)
@@ -225,4 +225,4 @@ next-spec 𝓤 H 𝓜 𝓖 𝓡 =
     (tables 𝓤 H 𝓜 𝓡 code.env .C) (tables 𝓤 H 𝓜 𝓡 code.env .Λ) #file_reader·next code.function (code.unfolded 𝓤 H 𝓜 𝓡)
     (next-meets 𝓤 H (𝓖 .A) (givenOf 𝓤 H 𝓜 𝓖) (𝓜 .mem) (𝓡 .run) (tablesOf 𝓤 H 𝓜 (tables 𝓤 H 𝓜 𝓡 code.env))
     (cited 𝓤 H (BodyPart 𝓤 H (𝓖 .A) (𝓜 .mem) (𝓡 .run)) 𝓜 𝓡 code.env #file_reader·body-part part-def.routine code.calls-file-reader·body-part (part-thm.met 𝓤 H 𝓜 𝓖 𝓡))
-    (cited 𝓤 H (BehindPart 𝓤 H (𝓖 .A) (𝓜 .mem) (𝓡 .run)) 𝓜 𝓡 code.env #file_reader·behind-part behind-def.routine code.calls-file-reader·behind-part (behind-thm.met 𝓤 H 𝓜 𝓖 𝓡)))
+    (cited 𝓤 H (BehindAt 𝓤 H (𝓖 .A) (𝓜 .mem) (𝓡 .run)) 𝓜 𝓡 code.env #file_reader·behind-at behind-def.routine code.calls-file-reader·behind-at (behind-thm.met 𝓤 H 𝓜 𝓖 𝓡)))

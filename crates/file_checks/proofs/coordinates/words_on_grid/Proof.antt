@@ -23,7 +23,7 @@ on-grid-requires : tie.Need-on-grid-requires Inv-loop μ-loop
 on-grid-requires c κs = search needs
 
 returns : tie.Need-returns Inv-loop μ-loop
-returns c = row-off (c .before .before .before .before .before .args .file .now) (c .before .before .before .before .before .args .at) (c .before .before .before .before .before .args .count) _ _ (c .before .before .before .loop .inv .1) (c .before .before .loop-test .taken) (sym (c .before .on-grid .ensures) ∙ not-true _ (c .if1 .taken))
+returns c = row-off (c .before .before .before .before .before .args .body .now) (c .before .before .before .before .before .args .at) (c .before .before .before .before .before .args .count) _ _ (c .before .before .before .loop .inv .1) (c .before .before .loop-test .taken) (sym (c .before .on-grid .ensures) ∙ not-true _ (c .if1 .taken))
 
 add-place : tie.Need-add-place Inv-loop μ-loop
 add-place c = search needs
@@ -35,10 +35,10 @@ loop-less : tie.Need-loop-less Inv-loop μ-loop
 loop-less c = search needs
 
 loop-again : tie.Need-loop-again Inv-loop μ-loop
-loop-again c = (omega arith, row-on (c .before .before .before .before .before .args .file .now) (c .before .before .before .before .before .args .at) (c .before .before .before .before .before .args .count) _ _ (c .before .before .before .loop .inv .1) (c .before .before .loop-test .taken) (sym (c .before .on-grid .ensures) ∙ not-false _ (c .if1 .left)))
+loop-again c = (omega arith, row-on (c .before .before .before .before .before .args .body .now) (c .before .before .before .before .before .args .at) (c .before .before .before .before .before .args .count) _ _ (c .before .before .before .loop .inv .1) (c .before .before .loop-test .taken) (sym (c .before .on-grid .ensures) ∙ not-false _ (c .if1 .left)))
 
 returns-2 : tie.Need-returns-2 Inv-loop μ-loop
-returns-2 c = row-end (c .before .before .before .args .file .now) (c .before .before .before .args .at) (c .before .before .before .args .count) _ _ (c .before .loop .inv .1) (c .loop-test .left)
+returns-2 c = row-end (c .before .before .before .args .body .now) (c .before .before .before .args .at) (c .before .before .before .args .count) _ _ (c .before .loop .inv .1) (c .loop-test .left)
 
 pub words-on-grid-spec : {M : Type 1} → statement M
 words-on-grid-spec =

@@ -1,9 +1,9 @@
--- `file_reader::behind_part` meets its contract. Assumes nothing.
+-- `file_reader::behind_at` meets its contract. Assumes nothing.
 use native.Mathlib.Omega.{arith}
 use Rattle.file_reader.proofs.Part.{within, behind-whole, behind-none}
 use borrow.Author.Needs.{needs}
-use Rattle.file_reader.proofs.behind_part.Statement.{statement}
-use Rattle.file_reader.proofs.behind_part.Tie as tie
+use Rattle.file_reader.proofs.behind_at.Statement.{statement}
+use Rattle.file_reader.proofs.behind_at.Tie as tie
 
 whole-at-requires : tie.Need-whole-at-requires
 whole-at-requires c κs = search needs
@@ -23,7 +23,7 @@ returns c = behind-whole (c .before .before .before .before .args .file .now) (c
 returns-2 : tie.Need-returns-2
 returns-2 c = behind-none (c .before .before .before .args .file .now) (c .before .before .before .args .at) _ (c .before .whole-at .ensures) (c .if1 .left)
 
-pub behind-part-spec : {M : Type 1} → statement M
-behind-part-spec =
+pub behind-at-spec : {M : Type 1} → statement M
+behind-at-spec =
     tie.close
     (tie.spec whole-at-requires size-at-requires add-result add-result-2 returns returns-2)
