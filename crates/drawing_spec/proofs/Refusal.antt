@@ -1,4 +1,4 @@
--- Laws of specs/Refusal: of conditions by their numbers, and of one list after another.
+-- Laws of specs/Refusal: of conditions by their numbers.
 use mathlib.Core.Path.{_≡_, refl, sym, ap, _∙_}
 use mathlib.Core.List.{List, [], _∷_, _++_}
 use mathlib.Core.Bool.{Bool, true, false, true≢false}
@@ -40,23 +40,6 @@ first-holds n (condition k t ∷ cs) e h = go (first-holds n cs) (eqb k n) refl 
     go later true q false e h = absurd (true≢false (cc))
     go later false q true e h = absurd (true≢false (cc))
     go later false q false e h = later e h
-
--- one list of conditions after another
-abbrev pub orElse : Verdict → Verdict → Verdict
-orElse (refused n) v = refused n
-orElse accepted v = v
-
-pub verdict-append : (cs ds : List Condition) → verdict (cs ++ ds) ≡ orElse (verdict cs) (verdict ds)
-unfolding verdict
-verdict-append [] ds = refl
-verdict-append (condition n true ∷ cs) ds = refl
-verdict-append (condition n false ∷ cs) ds = verdict-append cs ds
-
-pub both-accepted : (cs ds : List Condition) → verdict (cs ++ ds) ≡ accepted → (verdict cs ≡ accepted) × (verdict ds ≡ accepted)
-unfolding verdict
-both-accepted [] ds e = (refl, e)
-both-accepted (condition n true ∷ cs) ds e = absurd (true≢false (cc))
-both-accepted (condition n false ∷ cs) ds e = both-accepted cs ds e
 
 -- what is refused before a condition is refused
 pub refused-before : (n m : ℕ) (cs : List Condition) → verdict (until n cs) ≡ refused m → verdict cs ≡ refused m
