@@ -1,7 +1,7 @@
 //! The published planner and the proved one on the same drawings, in one process: whole answers, every byte of what
 //! was lent. The drawings come in batch form on standard input and are read one by one.
 
-use crate::port::{Lender, MOST_ENTRIES};
+use crate::port::{Lender, MOST_ENTRIES, MOST_FILE};
 use crate::{next_drawing, stand_in, Lent};
 use std::collections::BTreeMap;
 
@@ -264,7 +264,7 @@ impl Random {
                     let at = links[self.below(links.len())] + 2 * self.below(4);
                     data[at] = [data[at].wrapping_add(1), data[at].wrapping_sub(1), 0, self.below(8) as u8][self.below(4)];
                 }
-                6 if !later.is_empty() => {
+                6 if !later.is_empty() && 2 * data.len() <= MOST_FILE => {
                     let record = &later[self.below(later.len())];
                     let copy = data[record.start..record.end].to_vec();
                     data.splice(record.end..record.end, copy);

@@ -102,7 +102,7 @@ pub struct Lender {
     calls: usize,
 }
 
-const MOST_FILE: usize = 80_000;
+pub const MOST_FILE: usize = 80_000;
 pub const MOST_ENTRIES: usize = (1 << 20) + 1024;
 const MOST_OUTPUT: usize = 6 + 16 * 4100;
 
