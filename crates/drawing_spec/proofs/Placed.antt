@@ -1,32 +1,25 @@
 -- From a sketch to the drawing that it is: what placing keeps.
-use mathlib.Core.Path.{_≡_, refl, sym, ap, _∙_}
-use mathlib.Core.List.{List, [], _∷_, map}
-use mathlib.Core.Bool.{Bool, true, false, _&&_, true≢false}
+use mathlib.Core.Path.{_≡_, refl, ap, _∙_}
+use mathlib.Core.List.{List, [], _∷_, map, map-map}
+use mathlib.Core.Bool.{_&&_}
 use Prim.Native.Nat.{ℕ, zero, suc, _-_}
 use lib.ListN.{length, getD, drop, length-map}
 use lib.Dec.{leb, ltb}
-use Rattle.limits.specs.Limits.{kindSettings, kindLine, kindLink, mostLines, mostPoints, mostLinks}
-use Rattle.grid.specs.Grid.{readPlace, onGrid, placeAt}
-use Rattle.grid.specs.declared.Place.{Place}
-use Rattle.grid.specs.declared.Place.the-variants.{On, Off}
+use Rattle.limits.specs.Limits.{kindLine, kindLink}
+use Rattle.grid.specs.Grid.{readPlace, placeAt}
 use Rattle.drawing_spec.specs.Bytes.{number}
-use Rattle.drawing_spec.specs.Drawing.{PointOf, Point, EndOf, LinkOf, Link, DrawingOf, Drawing, Pattern, Sketch, overPoint, overEnd, overLink, over}
-use Rattle.drawing_spec.specs.Read.{Record, placed, spots, spotsOfLine, sketchedLink, settingsOf, bodies, sketchOf, drawingOf, point, points, pointsOfLine, linkOf, every, total, countsFit, coordinatesFit, pointFits, endFits, linksFit}
-use Rattle.drawing_spec.proofs.Same.{both}
+use Rattle.drawing_spec.specs.Drawing.{PointOf, EndOf, LinkOf, Link, DrawingOf, overPoint, overEnd, overLink, over}
+use Rattle.drawing_spec.specs.Read.{Record, placed, spotsOfLine, sketchedLink, bodies, sketchOf, drawingOf, point, points, pointsOfLine, linkOf, every, countsFit, endFits, linksFit}
 
 -- ---- the drawing of a file's records, body by body
 
-map-map : {A B C : Type 0} (f : B → C) (g : A → B) (h : A → C) → ((a : A) → f (g a) ≡ h a) → (xs : List A) → map f (map g xs) ≡ map h xs
-map-map f g h e [] = refl
-map-map f g h e (x ∷ xs) = λ i. e x i ∷ map-map f g h e xs i
-
 pub lines-are : (rs : List Record) → drawingOf rs .lines ≡ map pointsOfLine (bodies kindLine rs)
 unfolding drawingOf pointsOfLine
-lines-are rs = map-map (map (overPoint placed)) spotsOfLine pointsOfLine (λ b. refl) (bodies kindLine rs)
+lines-are rs = map-map (map (overPoint placed)) spotsOfLine (bodies kindLine rs)
 
 pub links-are : (rs : List Record) → drawingOf rs .links ≡ map linkOf (bodies kindLink rs)
 unfolding drawingOf linkOf
-links-are rs = map-map (overLink placed) sketchedLink linkOf (λ b. refl) (bodies kindLink rs)
+links-are rs = map-map (overLink placed) sketchedLink (bodies kindLink rs)
 
 pub settings-are : (rs : List Record) → drawingOf rs .settings ≡ sketchOf rs .settings
 unfolding drawingOf
@@ -59,7 +52,7 @@ no-points bs = refl
 
 module _ {A B : Type 0} (f : A → B) where
   lengths-over : (ls : List (List (PointOf A))) → map (λ (l : List (PointOf B)). length l) (map (map (overPoint f)) ls) ≡ map (λ (l : List (PointOf A)). length l) ls
-  lengths-over ls = map-map (λ (l : List (PointOf B)). length l) (map (overPoint f)) (λ (l : List (PointOf A)). length l) (λ l. length-map l (overPoint f)) ls
+  lengths-over ls = map-map (λ (l : List (PointOf B)). length l) (map (overPoint f)) ls ∙ (λ i. map (λ (l : List (PointOf A)). length-map l (overPoint f) i) ls)
 
   pub counts-over : (d : DrawingOf A) → countsFit (over f d) ≡ countsFit d
   unfolding countsFit over

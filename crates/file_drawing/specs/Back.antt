@@ -4,8 +4,6 @@ use mathlib.Core.List.{List, [], _∷_}
 use lib.ListN.{getD}
 use Rattle.grid.specs.Grid.{placeOf, placeAt}
 use Rattle.drawing_spec.specs.Drawing as drawn
-use Rattle.drawing_spec.specs.Refusal as refusal
-use Rattle.drawing_spec.specs.Read.{point}
 use Rattle.file_records.specs.declared.Point.{Point}
 use Rattle.file_records.specs.declared.MstEdge.{MstEdge}
 use Rattle.file_drawing.specs.declared.Drawing.{Drawing}

@@ -24,7 +24,6 @@ use Rattle.graph_spec.proofs.Built.{built-inside, built-on}
 use Rattle.graph_counts.proofs.Nodes.{counted-few}
 use Rattle.repair_spec.specs.Repair.{Repair}
 use Rattle.repair_spec.proofs.Repaired.{Repaired, fixed}
-use Rattle.walk_spec.specs.Line.{lineOf}
 use Rattle.walk_spec.proofs.Orient.{orient-all}
 use Rattle.planner_spec.specs.LineRecord.{inFront, lineRecord, Written}
 use Rattle.planner_spec.specs.Plan.{Lent, Planned, Outcome, drawingIn, repairOf, lineFor, planDrawing}
