@@ -25,9 +25,10 @@ enum planner_refusal {
     PLANNER_RECORD_LENGTH = 4,        /* a body has not the length that its kind asks */
     PLANNER_SETTING_OUT_OF_RANGE = 5, /* width, height, pairing or flags */
     PLANNER_TOO_MUCH = 6,             /* more than 256 lines, 1,024 points or 255 links */
+    PLANNER_OWN_LINKS = 15,           /* flag 4 asks for links, and the file has links of its own */
     PLANNER_OFF_THE_GRID = 7,         /* a coordinate is no multiple of 1/1024 from -4,096 to 4,096, or is negative zero */
     PLANNER_LINK_ASTRAY = 8,          /* a link names a line or a segment that is not there */
-    PLANNER_UNLINKED = 9,             /* some part can't be reached from the first point */
+    PLANNER_UNLINKED = 9,             /* some part can't be reached from the first point; never with flag 4 */
     PLANNER_TOO_MANY_ODD = 10,        /* optimal pairing, and more than 20 odd points */
     PLANNER_TABLES_TOO_SMALL = 11,    /* optimal pairing, and tables too short for the odd points: see below */
     PLANNER_NO_WAY_BACK = 12,         /* proved never to happen */

@@ -23,11 +23,13 @@ pub enum Refusal {
     SettingOutOfRange = 5,
     /// More than 256 lines, 1,024 points or 255 links.
     TooMuch = 6,
+    /// Flag 4 asks for links, and the file has links of its own.
+    OwnLinks = 15,
     /// A coordinate is no multiple of 1/1024 from -4,096 to 4,096, or is negative zero.
     OffTheGrid = 7,
     /// A link names a line or a segment that is not there.
     LinkAstray = 8,
-    /// Some part can't be reached from the first point.
+    /// Some part can't be reached from the first point; never with flag 4.
     Unlinked = 9,
     /// Optimal pairing, and more than 20 odd points.
     TooManyOdd = 10,
@@ -42,13 +44,14 @@ pub enum Refusal {
 }
 
 impl Refusal {
-    const ALL: [Refusal; 14] = [
+    const ALL: [Refusal; 15] = [
         Refusal::FileTooLong,
         Refusal::RecordCutOff,
         Refusal::RecordsOutOfOrder,
         Refusal::RecordLength,
         Refusal::SettingOutOfRange,
         Refusal::TooMuch,
+        Refusal::OwnLinks,
         Refusal::OffTheGrid,
         Refusal::LinkAstray,
         Refusal::Unlinked,
@@ -59,7 +62,7 @@ impl Refusal {
         Refusal::OutputTooSmall,
     ];
 
-    /// The refusal with this number, 1 to 14.
+    /// The refusal with this number, 1 to 15.
     pub fn of_number(number: u32) -> Option<Refusal> {
         Refusal::ALL.into_iter().find(|r| *r as u32 == number)
     }
@@ -131,7 +134,7 @@ pub fn plan<'a>(file: &[u8], floats: &mut [f64], bytes: &mut [u8], output: &'a m
     };
     if outcome.refusal != 0 {
         // The contract names no other number.
-        return Err(Refusal::of_number(outcome.refusal).expect("a refusal from 1 to 14"));
+        return Err(Refusal::of_number(outcome.refusal).expect("a refusal from 1 to 15"));
     }
     Ok(Plan {
         retrace: outcome.retrace,

@@ -1,11 +1,12 @@
 #!/usr/bin/env python3
 """Holds the planner that is linked into the oracle against the published one, on generated drawings, kind by kind.
 
-usage: oracle/against.py ORACLE SEED COUNT [--all-settings | --sizes | --damaged N | --changed N] [KIND ...]
+usage: oracle/against.py ORACLE SEED COUNT [--all-settings | --sizes | --linked | --damaged N | --changed N] [KIND ...]
 
 ORACLE was built with --planner. COUNT drawings of each kind, fewer of the slow kinds (SHARE); with --all-settings each
-with both pairings and all flags, with --sizes each at many sizes of tables and output, with --damaged N damaged copies
-of each, with --changed N copies with points, links and settings changed. oracle/against.rs says what is compared.
+with both pairings and all flags, with --sizes each at many sizes of tables and output, with --linked each one also with
+its made links written into it (of the kinds with flag 4 if none is named), with --damaged N damaged copies of each,
+with --changed N copies with points, links and settings changed. oracle/against.rs says what is compared.
 Prints the oracle's line for each kind, and the sums.
 """
 import argparse
@@ -17,10 +18,11 @@ import subprocess
 import sys
 
 import drawing as d
-from generate import KINDS
+from generate import KINDS, LINKING_KINDS
 
 # The part of COUNT that is made of the kinds that take long to make or to plan.
-SHARE = dict(comb=1 / 100, big=1 / 100, honeycomb=1 / 20, near=1 / 5, lace=1 / 4, edges=1 / 4, optimal=1 / 2)
+SHARE = dict(comb=1 / 100, big=1 / 100, made_many=1 / 100, made_long=1 / 50, honeycomb=1 / 20, near=1 / 5, lace=1 / 4, edges=1 / 4,
+             optimal=1 / 2)
 
 
 def main():
@@ -31,15 +33,16 @@ def main():
     parser.add_argument("kinds", nargs="*", metavar="KIND")
     parser.add_argument("--all-settings", action="store_true")
     parser.add_argument("--sizes", action="store_true")
+    parser.add_argument("--linked", action="store_true")
     parser.add_argument("--damaged", type=int)
     parser.add_argument("--changed", type=int)
     args = parser.parse_intermixed_args()
     mode = next(([f"--against-{name}", *number] for name, wanted, *number in [
         ("damaged", args.damaged, str(args.damaged)), ("changed", args.changed, str(args.changed)), ("sizes", args.sizes),
-        ("all-settings", args.all_settings)] if wanted), ["--against"])
+        ("linked", args.linked), ("all-settings", args.all_settings)] if wanted), ["--against"])
     os.nice(10)
     sums, failed = collections.Counter(), False
-    for kind in args.kinds or KINDS:
+    for kind in args.kinds or (LINKING_KINDS if args.linked else KINDS):
         rng = random.Random(f"{kind} {args.seed}")
         run = subprocess.Popen([args.oracle, *mode], stdin=subprocess.PIPE, stdout=subprocess.PIPE)
         try:

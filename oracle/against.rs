@@ -2,14 +2,16 @@
 //! was lent. The drawings come in batch form on standard input and are read one by one.
 
 use crate::port::{Lender, MOST_ENTRIES, MOST_FILE};
-use crate::{next_drawing, stand_in, Lent};
+use crate::{links, next_drawing, stand_in, Lent};
 use std::collections::BTreeMap;
 
 pub enum Mode {
-    /// Each drawing as it is lent, or with all eight settings.
+    /// Each drawing as it is lent, or with all sixteen settings.
     AsLent { all_settings: bool },
     /// Table and output sizes around those that just suffice.
     Sizes,
+    /// Each drawing, and with its made links written into it; the published planner gets the second one both times.
+    Linked,
     /// So many damaged copies of each.
     Damaged(usize),
     /// So many copies of each with points, links and settings changed; most of them are planned.
@@ -40,6 +42,7 @@ pub fn run(mode: Mode) -> bool {
                 }
             }
             Mode::Sizes => tally.compare_sizes(&mut lender, &file),
+            Mode::Linked => tally.compare_linked(&mut lender, &file, lent),
             Mode::Damaged(count) => {
                 for _ in 0..count {
                     tally.compare(&mut lender, &random.damaged(&file), lent);
@@ -60,29 +63,45 @@ impl Tally {
     fn compare(&mut self, lender: &mut Lender, file: &[u8], lent: Lent) {
         self.drawings += 1;
         let wanted = stand_in::plan(file, lent);
+        let lent = self.enough(file, &wanted, lent);
+        self.call(lender, file, lent, &wanted);
+    }
+
+    fn compare_linked(&mut self, lender: &mut Lender, file: &[u8], lent: Lent) {
+        self.drawings += 1;
+        let linked = links::written_into(file);
+        let wanted = stand_in::plan(&linked, lent);
+        let lent = self.enough(file, &wanted, lent);
+        self.call(lender, file, lent, &wanted);
+        if linked != file {
+            self.call(lender, &linked, lent, &wanted);
+        }
+    }
+
+    /// What is lent to the port.
+    fn enough(&self, file: &[u8], wanted: &Result<stand_in::Plan, u32>, lent: Lent) -> Lent {
         // Large tables take their time to fill and to look at: where those that are lent suffice, so do smaller ones,
         // but for one call in 64.
-        let (floats, bytes) = match &wanted {
+        let (floats, bytes) = match wanted {
             Ok(plan) => needed(file, plan.odd_before),
             // The tables' lengths do not matter before check 11.
-            Err(1..=10) => (0, 0),
+            Err(1..=10 | 15) => (0, 0),
             Err(_) => (lent.f64_entries, lent.byte_entries),
         };
         let more = if self.calls % 64 == 63 { 1 << 40 } else { self.calls % 40 };
-        let lent = Lent {
+        Lent {
             f64_entries: lent.f64_entries.min(floats + more).min(MOST_ENTRIES),
             byte_entries: lent.byte_entries.min(bytes + more).min(MOST_ENTRIES),
             ..lent
-        };
-        self.call(lender, file, lent, wanted);
+        }
     }
 
-    fn call(&mut self, lender: &mut Lender, file: &[u8], lent: Lent, wanted: Result<stand_in::Plan, u32>) {
+    fn call(&mut self, lender: &mut Lender, file: &[u8], lent: Lent, wanted: &Result<stand_in::Plan, u32>) {
         self.calls += 1;
         *self.answers.entry(wanted.as_ref().err().copied().unwrap_or(0)).or_default() += 1;
         let (got, written) = lender.plan(file, lent);
         let numbers = (got.refusal, got.retrace.to_bits(), got.before, got.after, got.points);
-        let same = match &wanted {
+        let same = match wanted {
             Err(number) => numbers == (*number, 0, 0, 0, 0),
             Ok(plan) => {
                 numbers == (0, plan.retrace.to_bits(), plan.odd_before, plan.odd_after, plan.points.len())
@@ -106,7 +125,7 @@ impl Tally {
         };
         let (n, output) = (plan.odd_before, 6 + 16 * plan.points.len());
         let (floats, bytes) = needed(file, n);
-        let mut call = |lent| self.call(lender, file, lent, stand_in::plan(file, lent));
+        let mut call = |lent| self.call(lender, file, lent, &stand_in::plan(file, lent));
         let enough = Lent { f64_entries: floats, byte_entries: bytes, output_bytes: output };
         // Optimal with many odd nodes takes the published planner long.
         let reach = if n > 12 && floats > 0 { 2 } else { 20 };
@@ -155,15 +174,15 @@ fn record(points: &[(f64, f64)]) -> Vec<u8> {
 
 /// The file with each pairing and flags, if its settings are such that check 5 takes them.
 fn with_all_settings(file: &[u8]) -> Vec<Vec<u8>> {
-    if file.len() < 16 || file[..6] != [10, 0, 0, 0, 1, 0] || file[14] > 1 || file[15] > 3 {
+    if file.len() < 16 || file[..6] != [10, 0, 0, 0, 1, 0] || file[14] > 1 || file[15] > 7 {
         return vec![file.to_vec()];
     }
     let with = |k: u8| {
         let mut copy = file.to_vec();
-        (copy[14], copy[15]) = (k / 4, k % 4);
+        (copy[14], copy[15]) = (k / 8, k % 8);
         copy
     };
-    (0..8).map(with).collect()
+    (0..16).map(with).collect()
 }
 
 pub fn hex(bytes: &[u8]) -> String {
@@ -274,7 +293,7 @@ impl Random {
                     drop(data.drain(record.start..record.end));
                 }
                 _ if data.len() >= 16 => match self.below(3) {
-                    0 => data[15] = self.below(4) as u8,
+                    0 => data[15] = self.below(8) as u8,
                     1 => data[14] = self.below(2) as u8,
                     _ => data[6 + 4 * self.below(2)] = self.below(20) as u8,
                 },

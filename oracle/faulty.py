@@ -37,6 +37,9 @@ FAULTS = {
     "gives a retrace of -0.0": "if (!r.refusal && r.retrace == 0) r.retrace = -0.0;",
     "counts one odd node more": "r.after += !r.refusal;",
     "accepts with a short output": "if (r.refusal == 14) r.refusal = 0;",
+    "passes over flag 4": "uint8_t c[80000]; for (size_t i = 0; i < fl; i++) c[i] = f[i]; if (fl > 15) c[15] &= ~4; r = right(c, fl, t, tl, b, bl, o, ol);",
+    "says 7 for 15": "if (r.refusal == 15) r.refusal = 7;",
+    "refuses a flagged file with 9": "if (fl > 15 && f[15] & 4 && !r.refusal) r = (Outcome){9, 0, 0, 0, 0};",
 }
 
 LAYER = """
@@ -61,13 +64,14 @@ def main():
     out.mkdir(parents=True, exist_ok=True)
     layered = out / "faulty.a"
     shutil.copy(archive, layered)
-    cases = "\n".join(f"    case {k}: {text} break;" for k, text in enumerate(FAULTS.values()))
+    cases = "\n".join(f"    case {k}: {{ {text} break; }}" for k, text in enumerate(FAULTS.values()))
     (out / "faulty.c").write_text(LAYER % cases)
     for command in (["objcopy", "--redefine-sym", "plan=right", layered], ["cc", "-O1", "-c", out / "faulty.c", "-o", out / "faulty.o"],
                     ["ar", "r", layered, out / "faulty.o"], [sys.executable, HERE / "build", source, out, "--fast-root", "--planner", layered]):
         subprocess.run(command, check=True)
     rng = random.Random("faulty")
-    batch = b"".join(d.batched(file, **lent) for _ in range(200) for file, lent in [KINDS["output"](rng)])
+    drawings = [KINDS[kind](rng) for kind, count in (("output", 200), ("made_few", 50), ("own_links", 50)) for _ in range(count)]
+    batch = b"".join(d.batched(file, **lent) for file, lent in drawings)
     wrong = 0
     for k, name in enumerate(FAULTS):
         run = subprocess.run([out / "oracle", "--against"], input=batch, capture_output=True, env=dict(os.environ, FAULT=str(k)))

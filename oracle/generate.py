@@ -16,6 +16,7 @@ import drawing as d
 STEP = 1024           # grid steps in a pixel
 EDGE = 4096 * STEP    # the largest coordinate
 FULL = dict(f64=2**20 + 20**2, byte=2**20)  # tables for 20 odd nodes
+LINK = 4              # the flag that asks for links
 
 
 def pixels(point):
@@ -29,9 +30,17 @@ def write(lines, links=(), **settings):
 
 
 def any_settings(rng, largest=None):
-    """Any valid settings. A small largest canvas puts the centre among the points, so that starts tie."""
+    """Any settings of document 01. A small largest canvas puts the centre among the points, so that starts tie."""
     side = lambda: rng.choice([0, 1, 10, 8191, 8192, rng.randrange(8193)]) if largest is None else rng.randint(0, largest)
     return dict(width=side(), height=side(), pairing=rng.randrange(2), flags=rng.randrange(4))
+
+
+def linking(rng, largest=None, optimal=0.5):
+    """Any settings with the flag that asks for links."""
+    settings = any_settings(rng, largest)
+    settings["flags"] |= LINK
+    settings["pairing"] = int(rng.random() < optimal)
+    return settings
 
 
 def clamp(v):
@@ -376,7 +385,7 @@ COORDINATES = [4096.0, -4096.0, 4096 + 1 / 1024, -4096 - 1 / 1024, 8192.0, 1 / 1
 
 
 def limit_cases():
-    """Named files at and just past each limit of checks 1 to 8."""
+    """Named files at and just past each limit of document 01's checks 1 to 8."""
     s, seg = d.settings(), [(0, 0), (1, 0)]
     good = d.drawing([[(0, 0), (3, 4)], [(1, 1)]], [(0, 0, (0, 0), 1, 0, (1, 1))])
     eight = s + d.line([(1, 1)] * 4092) + d.line([]) * 7
@@ -416,7 +425,7 @@ def limit_cases():
             yield f"{name} {v}", d.drawing([seg], **{name: v})
     for v in (0, 1, 2, 255):
         yield f"pairing {v}", d.drawing([seg], pairing=v)
-    for v in (0, 1, 2, 3, 4, 7, 128, 255):
+    for v in (0, 1, 2, 3, 4, 7, 8, 255):
         yield f"flags {v}", d.drawing([seg], flags=v)
     yield "flags 4 and too many lines", d.settings(flags=4) + d.line([]) * 257
     yield "256 empty lines", s + d.line([]) * 256
@@ -521,13 +530,13 @@ def optimal(rng):
 
 
 def flags(rng):
-    """One of a few shapes with every value of flags and pairing, and values just past them."""
+    """One of a few shapes with every pairing, every value of the first two flags, and values just past check 5."""
     shape = rng.choice([
         [[(0, 4), (4, 4), (8, 4)], [(4, 0), (4, 4), (4, 8)]], [[(0, 0), (3, 4)]], [[(0, 0), (8, 0), (8, 8), (0, 8), (0, 0)]],
         [[(0, 0), (4, 0), (4, 4)], [(4, 0), (8, 0)]], [[(0, 0), (4, 0)], [(0, 0), (0, 4)], [(0, 0), (4, 4)]], [], [[(5, 5)]]])
     lines = [[(x * STEP, y * STEP) for x, y in line] for line in shape]
     return write(lines, width=rng.randint(0, 16), height=rng.randint(0, 16), pairing=rng.choice([0, 0, 1, 1, 2]),
-                 flags=rng.choice([0, 1, 2, 3, 0, 1, 2, 3, 4])), {}
+                 flags=rng.choice([0, 1, 2, 3, 0, 1, 2, 3, 8])), {}
 
 
 def output(rng):
@@ -606,14 +615,189 @@ def big(rng):
     return write(lines, out, **settings), FULL
 
 
+# ---- Kinds with flag 4: no links in the file. ----
+
+def small_lines(rng, count, cells, most=4):
+    """Lines of one to `most` points among a few cells."""
+    return [[rng.choice(cells) for _ in range(rng.randint(1, most))] for _ in range(count)]
+
+
+def made_touching(rng):
+    """Flag 4: lines that begin, end or bend at a point of an earlier one, and some apart."""
+    unit = rng.choice([1, 300, STEP])
+    lines = [[spot(rng, 9 * unit) for _ in range(rng.randint(1, 4))]]
+    for _ in range(rng.randint(1, 7)):
+        line = [spot(rng, 9 * unit) for _ in range(rng.randint(1, 4))]
+        if rng.random() < 0.8:
+            line[rng.choice([0, -1, rng.randrange(len(line))])] = rng.choice(rng.choice(lines))
+        lines.append(line)
+    return write(lines, **linking(rng, rng.choice([9, None]))), FULL
+
+
+def made_dots(rng):
+    """Flag 4: dots, a few of them in one place, and some short lines."""
+    reach = rng.choice([2, 5, 3000, EDGE])
+    unit = rng.choice([1, 512]) if reach < 10 else 1
+    place = lambda: tuple(v * unit for v in spot(rng, reach))
+    share = rng.choice([1, 1, 0.7])
+    lines = [[place()] if rng.random() < share else [place(), place()] for _ in range(rng.randint(2, 16))]
+    return write(lines, **linking(rng, rng.choice([4, None]))), FULL
+
+
+def made_closed(rng):
+    """Flag 4: closed lines beside and in one another, dots in them, and lines of one point twice."""
+    lines = []
+    for _ in range(rng.randint(1, 6)):
+        x, y = spot(rng, 12 * STEP)
+        size = rng.choice([1, 2, 3, 8]) * STEP
+        square = [(x, y), (x + size, y), (x + size, y + size), (x, y + size)]
+        turn = rng.randrange(4)
+        way = rng.choice(["square", "square", "triangle", "there and back", "twice", "dot", "open"])
+        ring = square[turn:] + square[:turn + 1]
+        lines.append({"square": ring, "triangle": ring[:3] + ring[:1], "there and back": ring[:2] + ring[:1],
+                      "twice": [(x, y)] * rng.randint(2, 3), "dot": [(x + size // 2, y + size // 2)], "open": ring[:3]}[way])
+    return write(lines, **linking(rng, rng.choice([20, None]))), FULL
+
+
+def made_empty(rng):
+    """Flag 4: empty lines before, between and behind the others."""
+    lines = [[] if rng.random() < 0.5 else [spot(rng, rng.choice([3, 3000])) for _ in range(rng.randint(1, 4))]
+             for _ in range(rng.randint(1, 16))]
+    return write(lines, **linking(rng)), FULL
+
+
+def made_lattice(rng):
+    """Flag 4: all points on a lattice of 2 by 2 to 4 by 4, so that candidates of one length come by the dozen."""
+    across, down, unit = rng.randint(2, 4), rng.randint(2, 4), rng.choice([1, 7, STEP, 900 * STEP])
+    cells = [(x * unit, y * unit) for x in range(across) for y in range(down)]
+    return write(small_lines(rng, rng.randint(2, 12), cells), **linking(rng, rng.choice([4, None]))), FULL
+
+
+def made_few(rng):
+    """Flag 4: no line, one line or two to five, near or as far apart as the grid allows."""
+    reach = rng.choice([1, 5, 5000, EDGE, EDGE])
+    lines = [[spot(rng, reach) for _ in range(rng.choice([1, 2, 2, 3, 6]))] for _ in range(rng.choice([0, 1, 1, 2, 3, 4, 5, 5]))]
+    return write(lines, **linking(rng)), rng.choice([FULL, FULL, {}, dict(f64=0, byte=0), dict(output=rng.choice([0, 6, 22, 54, 86]))])
+
+
+def made_crossing(rng):
+    """Flag 4: straight lines and bent ones that cross each other without a shared point."""
+    reach = rng.choice([40, 5000, EDGE])
+    lines = []
+    for _ in range(rng.randint(2, 24)):
+        (x, y), bends = spot(rng, reach), rng.choice([0, 0, 0, 1, 4])
+        lines.append([(x, y)] + [spot(rng, reach) for _ in range(bends)] + [rng.choice([(-x, -y), (-x, y), spot(rng, reach)])])
+    return write(lines, **linking(rng, optimal=0.2)), FULL
+
+
+def made_long(rng):
+    """Flag 4: lines of many points, 1,024 in all."""
+    count = rng.choice([1, 2, 3, 8, 30, 100])
+    length, reach = 1024 // count, rng.choice([2000, EDGE])
+    lines = []
+    for _ in range(count):
+        x, y = spot(rng, reach)
+        step = rng.choice([1, 90, STEP])
+        lines.append([(x, y)])
+        for _ in range(rng.choice([length - 1, rng.randrange(length)])):
+            x, y = clamp(x + rng.randint(-step, step)), clamp(y + rng.randint(-step, step))
+            lines[-1].append((x, y))
+    return write(lines, **linking(rng, optimal=0.1)), FULL
+
+
+def many(rng, shape, count=256):
+    """As many lines as a file may have: dots, long lines, all ends in one place, all on one circle, on a lattice."""
+    if shape == "dots":
+        return [[spot(rng)] for _ in range(count)]
+    if shape == "long lines":
+        return [[spot(rng) for _ in range(1024 // count)] for _ in range(count)]
+    if shape == "one place":
+        return [[(5, 7), spot(rng, 3000), (5, 7)] for _ in range(count)]
+    if shape == "circle":
+        angle = lambda k: 2 * math.pi * k / count
+        return [[(round(EDGE * math.cos(angle(k))), round(EDGE * math.sin(angle(k))))] for k in range(count)]
+    side = math.isqrt(count)
+    cells = [(x * STEP, y * STEP) for x in range(side) for y in range(side)]
+    return small_lines(rng, count, cells, 3)
+
+
+def made_many(rng):
+    """Flag 4: 200 to 256 lines, empty ones among them at times."""
+    count = rng.choice([256, 256, 255, rng.randint(200, 256)])
+    lines = many(rng, rng.choice(["dots", "long lines", "one place", "circle", "lattice"]), count)
+    if rng.random() < 0.3:
+        lines = [[] if rng.random() < 0.2 else line for line in lines]
+    rng.shuffle(lines)
+    return write(lines, **linking(rng, optimal=0.1)), FULL
+
+
+OFF_GRID = (1 / 2048, 0)
+
+
+def own_link_cases():
+    """Named files for number 15, alone and with each check about it: the fault before the link records and in them."""
+    lines, dot = [[(0, 0), (3, 4)], [(1, 1)]], (1, 0, (1, 1))
+    good, none = (0, 0, (0, 0), *dot), []
+    two = [good, (0, 0, (3, 4), *dot)]
+    for flags in range(9):
+        yield f"a link, flags {flags}", d.drawing(lines, [good], flags=flags)
+        yield f"no link, flags {flags}", d.drawing(lines, flags=flags)
+    for name, changed in [("width 8,193", dict(width=8193)), ("height 8,193", dict(height=8193)), ("pairing 2", dict(pairing=2)),
+                          ("flags 12", dict(flags=12)), ("flags 255", dict(flags=255))]:
+        for count, links in (("two links", two), ("no link", none)):
+            yield f"{count} and {name}", d.drawing(lines, links, **dict(dict(flags=LINK), **changed))
+    dots = lambda count: [[(k % 32, k // 32)] for k in range(count)]
+    for count, links in (("a link", [(0, 0, (0, 0), 1, 0, (1, 0))]), ("no link", none)):
+        yield f"{count} and 256 lines", d.drawing(dots(256), links, flags=LINK)
+        yield f"{count} and 257 lines", d.drawing(dots(257), links, flags=LINK)
+        yield f"{count} and 1,024 points", d.drawing([[(0, 0)], [(1, 0)] * 1023], links, flags=LINK)
+        yield f"{count} and 1,025 points", d.drawing([[(0, 0)], [(1, 0)] * 1024], links, flags=LINK)
+    for count in (255, 256):
+        for flags in (0, LINK):
+            yield f"{count} links, flags {flags}", d.drawing(lines, [good] * count, flags=flags)
+            yield f"{count} links, the last one off the grid, flags {flags}", d.drawing(
+                lines, [good] * (count - 1) + [(0, 0, OFF_GRID, *dot)], flags=flags)
+    off_lines = [[OFF_GRID, (3, 4)], [(1, 1)]]
+    wrong = {"off the grid": (0, 0, OFF_GRID, *dot), "naming a missing line": (2, 0, (0, 0), *dot), "naming segment 1": (0, 1, (0, 0), *dot),
+             "naming an empty line": (2, 0, (0, 0), *dot)}
+    for flags in (0, LINK):
+        yield f"a point off the grid and two links, flags {flags}", d.drawing(off_lines, two, flags=flags)
+        yield f"a point off the grid and no link, flags {flags}", d.drawing(off_lines, flags=flags)
+        for name, link in wrong.items():
+            drawn = lines + [[]] * ("empty" in name)
+            yield f"a link {name}, flags {flags}", d.drawing(drawn, [link], flags=flags)
+            yield f"a link {name} before a good one, flags {flags}", d.drawing(drawn, [link, good], flags=flags)
+            yield f"a link {name} behind a good one, flags {flags}", d.drawing(drawn, [good, link], flags=flags)
+        yield f"a link off the grid that names a missing line, flags {flags}", d.drawing(lines, [(2, 0, OFF_GRID, *dot)], flags=flags)
+        yield f"a link of 39 bytes, flags {flags}", d.drawing(lines, flags=flags) + d.record(3, bytes(39))
+        yield f"a link before a line, flags {flags}", d.drawing(lines, [good], flags=flags) + d.line([(1, 1)])
+
+
+OWN_LINKS = []
+
+
+def own_links(rng):
+    """Number 15 alone and with checks 3 to 8, sometimes with other settings or a byte changed."""
+    if not OWN_LINKS:
+        OWN_LINKS.extend(file for _, file in own_link_cases())
+    file = bytearray(rng.choice(OWN_LINKS))
+    if rng.random() < 0.5:
+        file[14], file[15] = rng.randrange(2), rng.randrange(9)
+    return (damage(rng, file) if rng.random() < 0.2 else bytes(file)), {}
+
+
 KINDS = {f.__name__: f for f in (tiny, walks, lattice, honeycomb, lace, comb, cube, near, overlap, zero, links, dots, empty, pieces,
                                  limits, edges, optimal, flags, output, damaged, big)}
+# Of change request 1.
+LINKING_KINDS = {f.__name__: f for f in (made_touching, made_dots, made_closed, made_empty, made_lattice, made_few, made_crossing,
+                                         made_long, made_many, own_links)}
+KINDS |= LINKING_KINDS
 
 
 def main():
     if sys.argv[1:] == ["--list"]:
         for name, kind in KINDS.items():
-            print(f"{name:10} {kind.__doc__.splitlines()[0]}")
+            print(f"{name:13} {kind.__doc__.splitlines()[0]}")
         return
     name, seed, count = sys.argv[1], sys.argv[2], int(sys.argv[3])
     rng = random.Random(f"{name} {seed}")

@@ -1,10 +1,11 @@
-//! The oracle: the published planner, run on drawing files as document 01 says.
+//! The oracle: the published planner, run on drawing files as document 01 and the change requests say.
 //!
 //! With a planner linked in (oracle/build --planner) it also compares and times the two.
 
 mod departure;
 mod geo;
 mod hypot;
+mod links;
 mod reader;
 #[cfg(planner)]
 mod against;
@@ -12,6 +13,8 @@ mod against;
 mod bench;
 #[cfg(planner)]
 mod port;
+#[cfg(made)]
+mod port_links;
 
 #[cfg(not(real_petgraph))]
 mod petgraph;
@@ -61,9 +64,30 @@ fn answer(file: &[u8], lent: Lent) -> Vec<String> {
         Err(number) => vec![format!("refused {number}")],
         Ok(p) => {
             let head = format!("ok {:016x} {} {} {}", p.retrace.to_bits(), p.odd_before, p.odd_after, p.points.len());
-            let steps = |x: f64| (x * 1024.0) as i64;
-            let points = p.points.iter().map(|&(x, y)| format!("{} {}", steps(x), steps(y)));
+            let points = p.points.iter().map(|&point| in_steps(point));
             std::iter::once(head).chain(points).collect()
+        }
+    }
+}
+
+/// A point in grid steps.
+fn in_steps((x, y): (f64, f64)) -> String {
+    let steps = |x: f64| (x * 1024.0) as i64;
+    format!("{} {}", steps(x), steps(y))
+}
+
+/// The lines for --links: how many links are made, then for each one the line, the segment and the point of both ends
+/// and the square of its length. Points and squares are in grid steps.
+fn made_links(file: &[u8]) -> Vec<String> {
+    match links::drawing_of(file) {
+        Err(number) => vec![format!("refused {number}")],
+        Ok(drawing) => {
+            let made = if drawing.link { drawing.links } else { Vec::new() };
+            let row = |l: &reader::Link| {
+                let (a, b) = (in_steps(l.a), in_steps(l.b));
+                format!("{} {} {a} {} {} {b} {}", l.line_a, l.segment_a, l.line_b, l.segment_b, links::squared(l.a, l.b))
+            };
+            std::iter::once(format!("made {}", made.len())).chain(made.iter().map(row)).collect()
         }
     }
 }
@@ -118,12 +142,21 @@ fn next_drawing() -> Option<(Lent, Vec<u8>)> {
     Some((Lent { f64_entries: number(0), byte_entries: number(1), output_bytes: number(2) }, file))
 }
 
+/// A drawing in batch form.
+fn batched(file: &[u8], lent: Lent) -> Vec<u8> {
+    let head = [lent.f64_entries, lent.byte_entries, lent.output_bytes, file.len()];
+    head.into_iter().flat_map(|n| (n as u32).to_le_bytes()).chain(file.iter().copied()).collect()
+}
+
 const USAGE: &str = "usage: oracle [--f64 N] [--bytes N] [--output N] [--counts | --inside]   < one drawing
-       oracle --batch [--line | --counts | --inside]                      < drawings in batch form
+       oracle --links | --linked                                          < one drawing
+       oracle --batch [--line | --counts | --inside | --links | --linked] < drawings in batch form
 with a planner linked in, for drawings in batch form:
-       oracle --against | --against-all-settings | --against-sizes
+       oracle --against | --against-all-settings | --against-sizes | --against-linked
        oracle --against-damaged N | --against-changed N
-       oracle --bench | --phases | --stack";
+       oracle --bench | --phases | --stack
+with the port's `made_link` linked in (oracle/build --made):
+       oracle [--batch] --port-links                                      < as for --links";
 
 /// Runs a mode that needs a planner linked in; gives whether there is one of this name.
 #[cfg(planner)]
@@ -133,6 +166,7 @@ fn with_planner(word: &str, number: &mut dyn FnMut() -> usize) -> bool {
         "--against" => against::run(Mode::AsLent { all_settings: false }),
         "--against-all-settings" => against::run(Mode::AsLent { all_settings: true }),
         "--against-sizes" => against::run(Mode::Sizes),
+        "--against-linked" => against::run(Mode::Linked),
         "--against-damaged" => against::run(Mode::Damaged(number())),
         "--against-changed" => against::run(Mode::Changed(number())),
         "--bench" | "--phases" | "--stack" => {
@@ -149,9 +183,37 @@ fn with_planner(_: &str, _: &mut dyn FnMut() -> usize) -> bool {
     false
 }
 
+/// What is printed for a drawing.
+#[derive(Clone, Copy)]
+enum Shown {
+    Answer,
+    AnswerInOneLine,
+    Counts,
+    Inside,
+    Links,
+    #[cfg(made)]
+    PortLinks,
+    Linked,
+}
+
+fn shown(what: Shown, file: &[u8], lent: Lent, is_batch: bool) -> Vec<u8> {
+    let rows = |rows: Vec<String>| rows.join("\n") + if is_batch { "\n--\n" } else { "\n" };
+    match what {
+        Shown::Answer => rows(answer(file, lent)).into_bytes(),
+        Shown::AnswerInOneLine => (answer(file, lent).join(" ") + "\n").into_bytes(),
+        Shown::Counts => (counts(file, lent) + "\n").into_bytes(),
+        Shown::Inside => (inside(file, lent) + "\n").into_bytes(),
+        Shown::Links => rows(made_links(file)).into_bytes(),
+        #[cfg(made)]
+        Shown::PortLinks => rows(port_links::made_links(file)).into_bytes(),
+        Shown::Linked if is_batch => batched(&links::written_into(file), lent),
+        Shown::Linked => links::written_into(file),
+    }
+}
+
 fn main() {
     let mut lent = LENT_BY_PLAN;
-    let (mut is_batch, mut one_line, mut show_counts, mut show_inside) = (false, false, false, false);
+    let (mut is_batch, mut what) = (false, Shown::Answer);
     let mut words = std::env::args().skip(1);
     while let Some(word) = words.next() {
         let mut number = || words.next().and_then(|w| w.parse::<usize>().ok()).expect(USAGE);
@@ -160,33 +222,26 @@ fn main() {
             "--bytes" => lent.byte_entries = number(),
             "--output" => lent.output_bytes = number(),
             "--batch" => is_batch = true,
-            "--line" => one_line = true,
-            "--counts" => show_counts = true,
-            "--inside" => show_inside = true,
+            "--line" => what = Shown::AnswerInOneLine,
+            "--counts" => what = Shown::Counts,
+            "--inside" => what = Shown::Inside,
+            "--links" => what = Shown::Links,
+            #[cfg(made)]
+            "--port-links" => what = Shown::PortLinks,
+            "--linked" => what = Shown::Linked,
             other if with_planner(other, &mut number) => return,
             _ => panic!("{USAGE}"),
         }
     }
-    let shown = |lent: Lent, file: &[u8]| {
-        if show_counts {
-            counts(file, lent) + "\n"
-        } else if show_inside {
-            inside(file, lent) + "\n"
-        } else if one_line {
-            answer(file, lent).join(" ") + "\n"
-        } else {
-            answer(file, lent).join("\n") + if is_batch { "\n--\n" } else { "\n" }
-        }
-    };
     let mut out = std::io::BufWriter::new(std::io::stdout().lock());
-    let mut print = |text: String| out.write_all(text.as_bytes()).expect("standard output");
+    let mut print = |bytes: Vec<u8>| out.write_all(&bytes).expect("standard output");
     if is_batch {
         while let Some((lent, file)) = next_drawing() {
-            print(shown(lent, &file));
+            print(shown(what, &file, lent, true));
         }
     } else {
         let mut file = Vec::new();
         std::io::stdin().read_to_end(&mut file).expect("standard input");
-        print(shown(lent, &file));
+        print(shown(what, &file, lent, false));
     }
 }

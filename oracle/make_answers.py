@@ -32,7 +32,7 @@ def from_samples():
 # Limit cases that tell no more than another one of the list, by how their names begin.
 SPARED = [r"65,53\d bytes of nothing", r"(settings and )?[2346] bytes of a head", "body of 2.32-6", r".*kind (5|6|256|257|513)\b",
           "settings of kind (4|65535)", "settings at the end", "settings of (0|16) bytes", "line of (8|31) bytes", "link of (0|80)",
-          r"(width|height) (0|2147483648)$", "height 4294967295", "pairing (0|1|255)", "flags [01237]$", "flags 128",
+          r"(width|height) (0|2147483648)$", "height 4294967295", "pairing (0|1|255)", "flags [0123]$",
           "1,024 points in two", "settings and 1 bytes", "second body", "settings of kind 0", "line of 1 bytes",
           r"(y|x of a link's first end|y of a link's second end) number (?!2,|10,)", r"x number (4|5|9|16|12|14|17|18|20|22|23|24|25),",
           "(first|second) end names segment 65535", "second end names (line 65535|an empty line's|segment 2|segment 0)"]
@@ -167,10 +167,113 @@ def by_hand():
     yield "repair: past 4,000 edges with retraces to come", g.hairpin(960, 9, 0, 0)
 
 
+def ring(x, y, side):
+    return [(x, y), (x + side, y), (x + side, y + side), (x, y + side), (x, y)]
+
+
+def with_flag_4():
+    """Drawings for one rule each of the making of links."""
+    made = lambda lines, **settings: d.drawing(lines, **dict(dict(flags=g.LINK), **settings))
+    dots = lambda *points: [[p] for p in points]
+    yield "made: no line", made([])
+    yield "made: only empty lines", made([[], []])
+    yield "made: one dot", made(dots((3, 2)))
+    yield "made: one line gets no link, its own ends apart", made([[(0, 0), (4, 0), (4, 3)]])
+    yield "made: one line between empty ones", made([[], [(0, 0), (4, 0), (4, 3)], []])
+    letters = [[(0, 0), (0, 6), (3, 6)], [(6, 0), (6, 6)], [(9, 0), (11, 6), (13, 0)]]
+    for flags in range(4, 8):
+        yield f"made: three letters, flags {flags}", made(letters, flags=flags)
+        yield f"made: three letters, flags {flags}, Optimal", made(letters, flags=flags, pairing=1)
+    yield "made: the letters in another order and turned round", made([letters[2][::-1], letters[0], letters[1][::-1]])
+    yield "made: a dot in a ring", made([ring(0, 0, 8), [(4, 3)]])
+    yield "made: a ring in a ring", made([ring(0, 0, 9)[1:-1] + ring(0, 0, 9)[:2], ring(3, 2, 2)], flags=5)
+    yield "made: two lines that touch at their ends", made([[(0, 0), (4, 0)], [(4, 0), (4, 4)]])
+    yield "made: two lines that touch at their ends, and a third", made([[(0, 0), (4, 0)], [(7, 2), (9, 9)], [(4, 0), (4, 4)]])
+    yield "made: two lines that meet where neither ends are linked all the same", made(CROSS)
+    yield "made: the same, Optimal, closing", made(CROSS, pairing=1, flags=5)
+    yield "made: a line that ends within another is linked all the same", made([[(0, 0), (3, 0), (8, 0)], [(3, 0), (3, 4)]])
+    yield "made: two rings that meet in a corner where neither starts", made([ring(0, 0, 4), ring(4, 4, 3)[2:-1] + ring(4, 4, 3)[:3]])
+    yield "made: two lines that cross without a shared point", made([[(0, 4), (8, 3)], [(4, 0), (5, 8)]])
+    yield "made: two lines alike", made([[(0, 0), (4, 0), (4, 3)]] * 2)
+    yield "made: three dots in one place and one beside", made(dots((1, 1), (1, 1), (3, 1), (1, 1)))
+    yield "made: a line of one point twice", made([[(2, 2), (2, 2)], [(5, 3), (6, 6)]])
+    yield "made: empty lines count in the numbering", made([[], [(1, 1), (3, 1)], [], [(6, 2), (9, 1)], []])
+    yield "made: empty lines count in the numbering, bent lines", made([[(1, 1), (2, 5), (3, 1)], [], [], [(6, 2), (7, 7), (9, 1)], [(3, 3)]])
+    yield "made: an end lies on the last segment, a start on the first", made(
+        [[(0, 0), (4, 0), (4, 4), (8, 4)], [(9, 4), (12, 4), (12, 8)]])
+    yield "made: two ends, on their last segments", made([[(0, 0), (4, 0), (4, 4), (8, 4)], [(12, 8), (12, 4), (9, 4)]])
+    yield "made: two starts, on segment 0", made([[(8, 4), (4, 4), (4, 0), (0, 0)], [(9, 4), (12, 4), (12, 8)]])
+    yield "made: ends, not the nearest points", made([[(0, 0), (5, 4), (10, 0)], [(5, 5), (1, 9), (9, 9)]])
+    yield "made: as far apart as points can be", made(dots((-4096, -4096), (4096, 4096)), flags=5)
+    yield "made: through the nearest, not in file order", made(dots((0, 0), (9, 0), (2, 1), (7, 1), (4, 0)))
+    yield "made: a link along a line that is drawn", made([[(0, 0), (4, 0), (4, 4)], [(0, 0), (0, 4), (4, 4)], [(4, 8), (0, 8)]])
+    # What is told apart by the rank alone.
+    yield "rank: squares, not sums of differences", made([[(0, 0)], [(3, 3), (5, 0)]])
+    yield "rank: squares, not the larger difference", made([[(0, 0)], [(4, 4), (5, 0)]])
+    yield "rank: a grid step shorter", made([[(0, 0)], [(5 + 1 / 1024, 0), (0, 5)]])
+    yield "rank: a square of 2^32 steps", made(dots((0, 0), (64, 0), (1, 0)))
+    yield "rank: the same length three times round, by the lower line", made([[(0, 0), (4, 0)], [(4, 1), (4, 5)], [(3, 5), (0, 1)]])
+    yield "rank: lower line before higher", made(dots((0, 0), (1, 5), (1, 0), (0, 5)))
+    yield "rank: the higher line", made(dots((0, 0), (4, 1), (4, -1)))
+    yield "rank: the lower line's end", made([[(0, 0), (4, 0)], [(2, 5)]])
+    yield "rank: the higher line's end", made([[(2, 5)], [(0, 0), (4, 0)]])
+    yield "rank: the lower line's end before the higher's", made([[(0, 0), (4, 0)], [(4, 3), (0, 3)]])
+    yield "rank: all four at one length", made([[(0, 0), (2, 2)], [(2, 0), (0, 2)]])
+    hub = dots((5, 1), (1, 5), (5, 5), (9, 6), (5, 10))
+    for flags in (4, 5):
+        yield f"rank: links of three lengths at one dot, flags {flags}", made(hub, flags=flags)
+    yield "rank: links of one length at one dot, from both sides", made(dots((5, 2), (2, 5), (5, 5), (8, 5), (5, 8)), flags=5)
+    # Both links end at the dot where the walk begins, and the one that comes later is walked first.
+    centre = dict(flags=7, width=0, height=2)
+    yield "rank: two links of one length where the walk begins", made([[(0, 1)], [(1, 0), (0, 0), (1, 1)], [(0, 0)]], **centre)
+    yield "rank: two links where the walk begins, the shorter one to the higher line", made(
+        [[(0, 1)], [(3, 0), (0, 0), (2, 1)], [(0, 0)]], **centre)
+    yield "rank: two links where the walk begins, which end in the highest line", made(
+        [[(3, 0), (0, 0), (2, 1)], [(0, 0)], [(0, 1)]], **centre)
+    yield "rank: two links where the walk begins, one from each side", made([[(3, 0), (0, 0), (2, 1)], [(0, 1)], [(0, 0)]], **centre)
+    yield "rank: two links where the walk begins, from a line's end", made([[(0, 4), (0, 1)], [(3, -1), (0, -1), (1, 1)], [(0, -1)]], **centre)
+    square = [(x, y) for y in range(4) for x in range(4)]
+    yield "rank: 16 dots in a square", made(dots(*square))
+    yield "rank: 16 dots in a square, in another order", made(dots(*square[::3], *square[1::3], *square[2::3]))
+    yield "made: 256 lines, all ends in one place", made([[(1, 1)]] * 256)
+    yield "made: 256 dots in a square", made(dots(*[(x, y) for y in range(16) for x in range(16)]), flags=6)
+    # What is judged behind it.
+    yield "made: two lines and their link, output exact", made([[(0, 0), (4, 0)], [(6, 0), (9, 0)]]), dict(output=6 + 16 * 4)
+    yield "made: two lines and their link, a byte short", made([[(0, 0), (4, 0)], [(6, 0), (9, 0)]]), dict(output=5 + 16 * 4)
+    three = dots((5, 2), (2, 5), (5, 5), (8, 5))
+    yield "made: four odd nodes by links alone, Optimal, tables exact", made(three, pairing=1), dict(f64=32, byte=16)
+    yield "made: four odd nodes by links alone, Optimal, an f64 short", made(three, pairing=1), dict(f64=31, byte=16)
+    rows = lambda count: dots(*[(x, y) for y in range(2) for x in range(count)])
+    yield "made: 22 dots in two rows, Optimal: 20 odd nodes", made(rows(11), pairing=1)
+    yield "made: 24 dots in two rows, Optimal: 22 odd nodes", made(rows(12), pairing=1)
+    yield "made: exactly 4,000 edges", g.hairpin(997, 3, 0, 5)
+    yield "made: a dot's link takes the repaired edges past 4,000", g.hairpin(997, 3, 0, 5) + d.line([(1, 1)])
+    # Where the numbers stand.
+    yield "order: flags 8 and 257 lines: 5 before 6", d.settings(flags=8) + d.line([]) * 257
+    link = d.link(0, 0, (0, 0), 0, 0, (1, 0))
+    yield "order: flags 12 and a link: 5 before 15", d.settings(flags=12) + d.line([(0, 0), (1, 0)]) + link
+    yield "order: 257 lines and a link, flags 4: 6 before 15", d.settings(flags=4) + d.line([(0, 0), (1, 0)]) + d.line([]) * 256 + link
+    yield "order: 256 lines and a link, flags 4", d.settings(flags=4) + d.line([(0, 0), (1, 0)]) + d.line([]) * 255 + link
+    yield "order: a link and no output, flags 4: 15 before 14", made([[(0, 0), (1, 0)]]) + link, dict(output=0)
+
+
+# Cases of number 15 that tell no more than another one of the list, or that are long.
+SPARED_OWN = ["no link, flags [0-35-8]", "a link, flags [1-3]", ".* and (256|257) lines", ".* 1,02[45] points", "255 links, flags 0",
+              "255 links, the last", "256 links, .*flags 0", "no link and (height|flags)", "two links and height",
+              "a link (off|naming) .*good one, flags 0"]
+
+
+def from_own_links():
+    for name, file in g.own_link_cases():
+        if not re.match("|".join(SPARED_OWN), name):
+            yield "own links: " + name, file, {}
+
+
 def generated():
     """Small drawings of the generator's kinds."""
     wanted = dict(tiny=5, walks=2, lattice=1, lace=2, comb=1, cube=3, near=3, overlap=2, zero=2, links=4, dots=2, empty=1,
-                  pieces=2, optimal=2, damaged=2)
+                  pieces=2, optimal=2, damaged=2, made_touching=4, made_dots=3, made_closed=3, made_empty=3, made_lattice=6,
+                  made_few=3, made_crossing=3, own_links=3)
     for kind, count in wanted.items():
         rng = random.Random(f"answers {kind}")
         number = 0
@@ -182,7 +285,7 @@ def generated():
 
 
 def main():
-    cases = [(name, file, *(lent or [{}])) for make in (from_samples, from_limits, by_hand, generated)
+    cases = [(name, file, *(lent or [{}])) for make in (from_samples, from_limits, by_hand, generated, with_flag_4, from_own_links)
              for name, file, *lent in make()]
     lent = [dict(dict(f64=d.PLAN_F64, byte=d.PLAN_BYTES, output=d.PLAN_OUTPUT), **lent) for _, _, lent in cases]
     batch = b"".join(d.batched(file, **sizes) for (_, file, _), sizes in zip(cases, lent))

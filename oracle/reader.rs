@@ -1,13 +1,15 @@
-//! The drawing file and refusals 1 to 8, in document 01's order: each check covers the whole file
-//! before the next one starts.
+//! The drawing file and its refusals, in the order of document 01 and of change request 1: 1 to 6, 15, 7, 8. Each check
+//! covers the whole file before the next one starts.
 
-/// What a file that passes checks 1 to 8 says.
+/// What a file that passes these checks says.
 pub struct Drawing {
     pub width: u32,
     pub height: u32,
     pub optimal: bool,
     pub close: bool,
     pub inside: bool,
+    /// The planner is to make the links, and there are none in the file.
+    pub link: bool,
     pub lines: Vec<Vec<(f64, f64)>>,
     pub links: Vec<Link>,
 }
@@ -26,7 +28,7 @@ struct Record<'a> {
     body: &'a [u8],
 }
 
-/// The drawing, or the number of the first refusal among 1 to 8.
+/// The drawing as the file has it, or the number of the first refusal.
 pub fn read(file: &[u8]) -> Result<Drawing, u32> {
     if file.len() > 65_536 {
         return Err(1);
@@ -67,7 +69,8 @@ pub fn read(file: &[u8]) -> Result<Drawing, u32> {
     let settings = records[0].body;
     let (width, height) = (u32_at(settings, 0), u32_at(settings, 4));
     let (pairing, flags) = (settings[8], settings[9]);
-    if width > 8192 || height > 8192 || pairing > 1 || flags > 3 {
+    let (close, inside, link) = (flags & 1 != 0, flags & 2 != 0, flags & 4 != 0);
+    if width > 8192 || height > 8192 || pairing > 1 || flags > 7 {
         return Err(5);
     }
 
@@ -76,6 +79,10 @@ pub fn read(file: &[u8]) -> Result<Drawing, u32> {
     let points_in_all: usize = line_bodies.iter().map(|b| b.len() / 16).sum();
     if line_bodies.len() > 256 || points_in_all > 1024 || link_bodies.len() > 255 {
         return Err(6);
+    }
+
+    if link && !link_bodies.is_empty() {
+        return Err(15);
     }
 
     let lines: Vec<Vec<(f64, f64)>> =
@@ -103,8 +110,7 @@ pub fn read(file: &[u8]) -> Result<Drawing, u32> {
         return Err(8);
     }
 
-    let (close, inside) = (flags & 1 != 0, flags & 2 != 0);
-    Ok(Drawing { width, height, optimal: pairing == 1, close, inside, lines, links })
+    Ok(Drawing { width, height, optimal: pairing == 1, close, inside, link, lines, links })
 }
 
 /// A whole multiple of 1/1024 from -4,096 to 4,096, and not negative zero. NaN fails every test.

@@ -6,7 +6,7 @@
 use crate::petgraph::algo::dijkstra;
 use crate::petgraph::graph::{NodeIndex, UnGraph};
 use crate::petgraph::visit::EdgeRef;
-use crate::{departure, geo, petgraph, reader, Lent};
+use crate::{departure, geo, links, petgraph, reader, Lent};
 
 include!("published.rs");
 
@@ -33,7 +33,7 @@ pub struct Plan {
 
 /// The plan for a file, or the number of its refusal.
 pub fn plan(file: &[u8], lent: Lent) -> Result<Plan, u32> {
-    let drawing = reader::read(file)?;
+    let drawing = links::drawing_of(file)?;
     let (mut graph, node_coords) = graph_of(&drawing);
     let edges_drawn = graph.edge_count();
     if !all_reached_from_first(&graph) {
@@ -92,12 +92,12 @@ fn line_of(drawing: &reader::Drawing, graph: &UnGraph<(), f64>, node_coords: &[g
     line.into_points().into_iter().map(|p| (p.x, p.y)).collect()
 }
 
-/// When each phase ends, by this clock: reading, `build_graph`, check 9 and the odd nodes, the pairs, the searches, the
+/// When each phase ends, by this clock: reading (the making of links in it), `build_graph`, check 9 and the odd nodes, the pairs, the searches, the
 /// retraces, and the line. `fix_parity` is taken apart for it: for each pair the search is made alone first, on the
 /// graph without copies, so that the retraces hold a search each too. A refused drawing has fewer phases.
 pub fn phase_ends(file: &[u8], now: fn() -> f64) -> Vec<f64> {
     let mut ends = vec![now()];
-    let Ok(drawing) = reader::read(file) else {
+    let Ok(drawing) = links::drawing_of(file) else {
         return ends;
     };
     ends.push(now());

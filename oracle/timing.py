@@ -1,7 +1,7 @@
 #!/usr/bin/env python3
 """Times the planner that is linked into the oracle beside the published one, as tables for docs/PERFORMANCE.md.
 
-usage: oracle/timing.py ORACLE TABLE ...       TABLE is goals, slow, growth, small, phases, walk, found or stack
+usage: oracle/timing.py ORACLE TABLE ...       TABLE is goals, slow, growth, small, phases, walk, found, links or stack
        oracle/timing.py --programs PLAN RUST   the programs as a person runs them
        oracle/timing.py --write FOLDER         the drawings of all tables as files, for other planners
 
@@ -140,6 +140,19 @@ def walk():
         yield f"{edges:,} edges", g.hairpin((edges - 12) // 4, 3, 0, 1), {}
 
 
+# Drawings with flag 4. With Optimal the larger ones are refused with 10 as soon as the graph is there, or have two odd nodes
+# at most, so that little but the making is in their times.
+def links():
+    for shape in ("dots", "long lines", "one place", "circle"):
+        for count in (256,) if shape != "dots" else (32, 64, 128, 256):
+            lines = g.many(random.Random(f"timing {shape}"), shape, count)
+            yield f"{count} lines, {shape}, Optimal", g.write(lines, pairing=1, flags=g.LINK), {}
+    for shape in ("dots", "long lines"):
+        yield f"256 lines, {shape}, Greedy", g.write(g.many(random.Random(f"timing {shape}"), shape), flags=g.LINK), {}
+    yield "three letters", d.drawing([[(0, 0), (0, 6), (3, 6)], [(6, 0), (6, 6)], [(9, 0), (11, 6), (13, 0)]], flags=g.LINK), {}
+    yield "two dots", d.drawing([[(0, 0)], [(3, 4)]], flags=g.LINK), {}
+
+
 def run(oracle, mode, rows):
     """The oracle's line for each row: its sizes, then groups of numbers."""
     batch = b"".join(d.batched(file, **lent) for _, file, lent, *_ in rows)
@@ -182,6 +195,22 @@ def print_whole(oracle, rows, most=None):
     longest, by_library, by_machine = (max(timed, key=order) for order in orders)
     print(f"\n{len(timed)} drawings. Longest: {longest[0]}, {micro(longest[-3])} µs. Highest ratio: {by_library[0]},"
           f" {ratio(by_library[-3], by_library[-2])}; to the machine's root {by_machine[0]}, {ratio(by_machine[-3], by_machine[-1])}.")
+
+
+def print_links(oracle, rows):
+    """Each drawing as it is and with its made links in the file; the difference is the making, less the reading of the links' records.
+
+    The published planner makes no links, so its time is that of the second file."""
+    batch = b"".join(d.batched(file, **lent) for _, file, lent in rows)
+    linked = subprocess.run([oracle, "--batch", "--linked"], input=batch, stdout=subprocess.PIPE, check=True).stdout
+    with_links = [(name, file, lent) for (name, _, lent), (*_, file) in zip(rows, d.unbatched(linked), strict=True)]
+    head("drawing (µs)", "nodes / edges / odd / repaired edges / points", "port", "port, links in the file", "difference",
+         "Rust, C library's hypot, links in the file", "port by it")
+    found = run(oracle, "--bench", [row for both in zip(rows, with_links) for row in both])
+    for (name, *_), (text, (port, *_)), (same, (port_linked, library, _)) in zip(rows, found[::2], found[1::2]):
+        assert text == same, f"{name}: {text} with the flag, {same} with the links"
+        print("|", " | ".join([name, sizes(text), micro(port), micro(port_linked), micro(port - port_linked), micro(library),
+                               ratio(port, library)]), "|")
 
 
 # The searches are those of a graph without copies, so that the retraces take what the copies add to them too. The port's
@@ -264,7 +293,7 @@ def print_programs(plan, rust):
         print_row(name, [micro(port), micro(other), ratio(port, other)], range(3))
 
 
-TABLES = dict(goals=goals, slow=slow_ones, growth=growth, small=small, phases=phases, walk=walk, found=found)
+TABLES = dict(goals=goals, slow=slow_ones, growth=growth, small=small, phases=phases, walk=walk, found=found, links=links)
 
 
 def main():
@@ -282,6 +311,8 @@ def main():
     for name in wanted:
         if name == "stack":
             print_stack(oracle, [row for rows in TABLES.values() for row in rows()])
+        elif name == "links":
+            print_links(oracle, list(links()))
         elif name in ("phases", "walk"):
             print_phases(oracle, list(TABLES[name]()))
         else:

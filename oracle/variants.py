@@ -30,12 +30,16 @@ LENGTHS_CHECKED = """    if !records.iter().all(right_length) {
         return Err(4);
     }
 """
-SETTINGS_CHECKED = """    if width > 8192 || height > 8192 || pairing > 1 || flags > 3 {
+SETTINGS_CHECKED = """    if width > 8192 || height > 8192 || pairing > 1 || flags > 7 {
         return Err(5);
     }
 """
 COUNTS_CHECKED = """    if line_bodies.len() > 256 || points_in_all > 1024 || link_bodies.len() > 255 {
         return Err(6);
+    }
+"""
+OWN_LINKS_CHECKED = """    if link && !link_bodies.is_empty() {
+        return Err(15);
     }
 """
 GRID_CHECKED = """    if !lines.iter().flatten().copied().chain(ends).all(|(x, y)| on_grid(x) && on_grid(y)) {
@@ -74,6 +78,24 @@ def limit(old, new):
     return "reader.rs", (old, new)
 
 
+def rank(old, new):
+    return "links.rs", (old, new)
+
+
+def joined_before(condition):
+    """Lines a and b that meet the condition need no link."""
+    merged = f"""    for b in 0..lines.len() {{
+        for a in 0..b {{
+            if {condition} {{
+                let (one, other) = (group[a], group[b]);
+                group.iter_mut().filter(|g| **g == other).for_each(|g| *g = one);
+            }}
+        }}
+    }}
+"""
+    return "links.rs", ("    let mut kept = Vec::new();", merged + "    let mut kept = Vec::new();")
+
+
 def side(name, by):
     return "fn image_center(", (f"f64::from(dims.{name}) / 2.0", by)
 
@@ -88,7 +110,10 @@ VERSIONS = {
     "check 5: height 8,191 at most": limit("height > 8192", "height > 8191"),
     "check 5: height 8,193 at most": limit("height > 8192", "height > 8193"),
     "check 5: pairing 2": limit("pairing > 1", "pairing > 2"),
-    "check 5: flags 4": limit("flags > 3", "flags > 4"),
+    "check 5: flags 8": limit("flags > 7", "flags > 8"),
+    "check 5: flags 3 at most": limit("flags > 7", "flags > 3"),
+    "check 5: flags 4 at most": limit("flags > 7", "flags > 4"),
+    "check 5: flags 6 at most": limit("flags > 7", "flags > 6"),
     "check 6: 255 lines at most": limit("line_bodies.len() > 256", "line_bodies.len() > 255"),
     "check 6: 257 lines at most": limit("line_bodies.len() > 256", "line_bodies.len() > 257"),
     "check 6: 255 lines with points at most": limit(
@@ -123,6 +148,23 @@ VERSIONS = {
     "5 before 4": ("reader.rs", (LENGTHS_CHECKED, "    if records[0].body.len() < 10 {\n        return Err(4);\n    }\n"),
                    (SETTINGS_CHECKED, SETTINGS_CHECKED + LENGTHS_CHECKED)),
     "6 before 5": ("reader.rs", (SETTINGS_CHECKED, ""), (COUNTS_CHECKED, COUNTS_CHECKED + SETTINGS_CHECKED)),
+    "15 before 5": ("reader.rs", (OWN_LINKS_CHECKED, ""), (
+        SETTINGS_CHECKED, "    if link && records.iter().any(|r| r.kind == 3) {\n        return Err(15);\n    }\n" + SETTINGS_CHECKED)),
+    "15 before 6": ("reader.rs", (OWN_LINKS_CHECKED, ""), (COUNTS_CHECKED, OWN_LINKS_CHECKED + COUNTS_CHECKED)),
+    "15 before 6, where lines or points are too many": (
+        "reader.rs", (COUNTS_CHECKED, "    if link_bodies.len() > 255 {\n        return Err(6);\n    }\n"),
+        (OWN_LINKS_CHECKED, OWN_LINKS_CHECKED + COUNTS_CHECKED)),
+    "15 behind 7": ("reader.rs", (OWN_LINKS_CHECKED, ""), (GRID_CHECKED, GRID_CHECKED + OWN_LINKS_CHECKED)),
+    # The links' coordinates alone, or the lines' alone, before 15.
+    "15 behind 7 of the links": ("reader.rs", (OWN_LINKS_CHECKED, ""), (
+        GRID_CHECKED, "    if !ends.clone().all(|(x, y)| on_grid(x) && on_grid(y)) {\n        return Err(7);\n    }\n" + OWN_LINKS_CHECKED + GRID_CHECKED)),
+    "15 behind 7 of the lines": ("reader.rs", (OWN_LINKS_CHECKED, ""), (
+        GRID_CHECKED, "    if !lines.iter().flatten().all(|&(x, y)| on_grid(x) && on_grid(y)) {\n        return Err(7);\n    }\n" + OWN_LINKS_CHECKED + GRID_CHECKED)),
+    "15 behind 8": ("reader.rs", (OWN_LINKS_CHECKED, ""), (LINKS_CHECKED, LINKS_CHECKED + OWN_LINKS_CHECKED)),
+    "15 never": ("reader.rs", (OWN_LINKS_CHECKED, "")),
+    "15 without the flag": ("reader.rs", ("    if link && !link_bodies", "    if !link_bodies")),
+    "15 without a link": ("reader.rs", ("    if link && !link_bodies.is_empty()", "    if link")),
+    "15 from two links on": ("reader.rs", ("    if link && !link_bodies.is_empty()", "    if link && link_bodies.len() > 1")),
     "7 before 6": ("reader.rs", (COUNTS_CHECKED, ""), (GRID_CHECKED, GRID_CHECKED + COUNTS_CHECKED)),
     "8 before 7": ("reader.rs", (GRID_CHECKED, ""), (LINKS_CHECKED, LINKS_CHECKED + GRID_CHECKED)),
     "10 before 9": ("rust_plan.rs", (ALL_REACHED, ""), (MANY_ODD, MANY_ODD + ALL_REACHED),
@@ -188,8 +230,65 @@ VERSIONS = {
     "cut: the last step between the virtual edge's ends": ("departure.rs", (BY_VIRTUAL, f"circuit.iter().rposition({BY_ENDS})")),
     "cut: the circuit's start twice": ("departure.rs", (CUT, "[&nodes[after..], &nodes[..after]].concat()")),
     "hypot: the C library's": ("hypot.rs", ("nearest_root((a * a + b * b) as u64) / 1024.0", "{ let _ = (a, b); self.hypot(other) }")),
-    "flags: 3 does not close": ("reader.rs", ("flags & 1 != 0", "flags % 3 == 1")),
-    "flags: 3 is not Inside": ("reader.rs", ("flags & 2 != 0", "flags == 2")),
+    "flags: 3 does not close": ("reader.rs", ("flags & 1 != 0", "flags & 3 == 1")),
+    "flags: 3 is not Inside": ("reader.rs", ("flags & 2 != 0", "flags & 3 == 2")),
+    "flags: 5 and 7 do not close": ("reader.rs", ("flags & 1 != 0", "flags == 1 || flags == 3")),
+    "flags: 7 does not close": ("reader.rs", ("flags & 1 != 0", "flags & 1 != 0 && flags != 7")),
+    "flags: 6 and 7 are not Inside": ("reader.rs", ("flags & 2 != 0", "flags == 2 || flags == 3")),
+    "flags: 7 is not Inside": ("reader.rs", ("flags & 2 != 0", "flags & 2 != 0 && flags != 7")),
+    **{f"flags: {flags} makes no links": ("reader.rs", ("flags & 4 != 0", f"flags & 4 != 0 && flags != {flags}")) for flags in range(4, 8)},
+    "made links: none": ("links.rs", ("    kept\n}", "    kept.clear();\n    kept\n}")),
+    "made links: one fewer, the longest": ("links.rs", ("    kept\n}", "    kept.pop();\n    kept\n}")),
+    "made links: one fewer, the shortest": ("links.rs", ("    kept\n}", "    kept.drain(..1.min(kept.len()));\n    kept\n}")),
+    "made links: one more, the first candidate that is not kept": ("links.rs", (
+        "    let mut kept = Vec::new();", "    let mut kept = Vec::new();\n    let mut spare = true;"), (
+        "        if one != other {", "        if one != other || std::mem::take(&mut spare) {")),
+    "made links: the longest": ("links.rs", ("(squared(c.lower.at", "(-squared(c.lower.at")),
+    "made links: by line numbers alone": ("links.rs", ("(squared(c.lower.at, c.higher.at), ", "(0, ")),
+    "made links: sums of differences": ("links.rs", ("across * across + down * down", "across.abs() + down.abs()")),
+    "made links: the larger difference": ("links.rs", ("across * across + down * down", "across.abs().max(down.abs())")),
+    "made links: squares in 32 bits": ("links.rs", ("across * across + down * down", "i64::from((across * across + down * down) as u32)")),
+    "made links: squares of whole pixels": ("links.rs", (
+        "    across * across + down * down", "    let (across, down) = (across / 1024, down / 1024);\n    across * across + down * down")),
+    "made links: from each end to the next start": ("links.rs", (
+        "higher.line > lower.line)", "higher.line > lower.line && lower.is_last && !higher.is_last)")),
+    "made links: not from starts": ("links.rs", ("vec![End { line, is_last: false, segment: 0, at: start }, End", "vec![End")),
+    "made links: not from ends": ("links.rs", (", End { line, is_last: true, segment: last, at: end }]", "]")),
+    "made links: between any points of two lines": ("links.rs", (
+        "    vec![End { line, is_last: false, segment: 0, at: start }, End { line, is_last: true, segment: last, at: end }]",
+        "    points.iter().enumerate().map(|(k, &at)| End { line, is_last: k > 0, segment: k.min(last), at }).collect()")),
+    "made links: an end names segment 0": ("links.rs", ("segment: last, at: end", "segment: 0, at: end")),
+    "made links: a start names the last segment": ("links.rs", ("segment: 0, at: start", "segment: last, at: start")),
+    "made links: start and end exchange their segments": ("links.rs", (
+        "segment: 0, at: start", "segment: last, at: start"), ("segment: last, at: end", "segment: 0, at: end")),
+    "made links: a start at the end's point": ("links.rs", ("segment: 0, at: start", "segment: 0, at: end")),
+    "made links: an end at the start's point": ("links.rs", ("segment: last, at: end", "segment: last, at: start")),
+    "made links: an end names the segment before the last": ("links.rs", ("points.len().saturating_sub(2)", "points.len().saturating_sub(3)")),
+    "made links: an empty line is a dot at 0, 0": ("links.rs", ("""    let (Some(&start), Some(&end)) = (points.first(), points.last()) else {
+        return Vec::new();
+    };
+""", "    let (start, end) = (points.first().copied().unwrap_or((0.0, 0.0)), points.last().copied().unwrap_or((0.0, 0.0)));\n")),
+    "made links: empty lines not counted": ("links.rs", ("lines.iter().enumerate()", "lines.iter().filter(|l| !l.is_empty()).enumerate()")),
+    "made links: dots left out": ("links.rs", ("    let last = points", "    if points.len() == 1 {\n        return Vec::new();\n    }\n    let last = points")),
+    # Where only ends meet the answer is the same, since a link with one point twice draws nothing.
+    "made links: lines with a shared point are joined already": joined_before("lines[a].iter().any(|p| lines[b].contains(p))"),
+    "made links: lines that cross are joined already": joined_before("""lines[a].windows(2).any(|s| lines[b].windows(2).any(|t| {
+        let side = |o: Point, p: Point, q: Point| ((p.0 - o.0) * (q.1 - o.1) - (p.1 - o.1) * (q.0 - o.0)).signum();
+        side(s[0], s[1], t[0]) != side(s[0], s[1], t[1]) && side(t[0], t[1], s[0]) != side(t[0], t[1], s[1])
+    }))"""),
+    "rank: the higher line first among lower ones": rank("c.lower.line", "usize::MAX - c.lower.line"),
+    "rank: the higher line first among higher ones": rank("c.higher.line", "usize::MAX - c.higher.line"),
+    "rank: the end of the lower line before its start": rank("c.lower.is_last", "!c.lower.is_last"),
+    "rank: the end of the higher line before its start": rank("c.higher.is_last", "!c.higher.is_last"),
+    "rank: higher line before lower": rank("c.lower.line, c.higher.line", "c.higher.line, c.lower.line"),
+    "rank: the higher line's end before the lower's": rank("c.lower.is_last, c.higher.is_last", "c.higher.is_last, c.lower.is_last"),
+    "rank: ends before lines": ("links.rs", ("-> (i64, usize, usize, bool, bool)", "-> (i64, bool, bool, usize, usize)"), (
+        "c.lower.line, c.higher.line, c.lower.is_last, c.higher.is_last", "c.lower.is_last, c.higher.is_last, c.lower.line, c.higher.line")),
+    "made links: in the drawing from the last to the first": ("links.rs", ("    kept\n}", "    kept.reverse();\n    kept\n}")),
+    "made links: in the drawing by their lines": ("links.rs", ("    kept\n}", "    kept.sort_by_key(|l: &Link| (l.line_a, l.line_b));\n    kept\n}")),
+    "made links: the higher line's end first": ("links.rs", ("link(lower, higher)", "link(higher, lower)")),
+    "made links: starts first": ("links.rs", (
+        "link(lower, higher)", "if lower.is_last && !higher.is_last { link(higher, lower) } else { link(lower, higher) }")),
 }
 
 

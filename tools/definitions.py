@@ -8,7 +8,7 @@ repository, for a scratch repository of the definitions and one crate more: `rt 
 drawing and N theorems to a file, that the definition `plan` gives its answer for just what the case says is lent: whole,
 with every byte of the output. Some cases take more steps than the checker allows, or too long; they are counted and
 named, and left to the program that replays the list with the planner's code:
-- files of more than BYTES bytes that pass checks 1 to 8,
+- files of more than BYTES bytes that pass checks 1 to 8 and 15,
 - Optimal with 10 odd nodes or more, since the definition tries every pairing.
 """
 import argparse
@@ -21,6 +21,7 @@ import sys
 
 sys.path.insert(0, str(pathlib.Path(__file__).resolve().parent.parent / "oracle"))
 import answers
+from cardermoss import refusals
 
 # The crate that holds the definition `plan`.
 DEFINITIONS = "planner_spec"
@@ -31,12 +32,28 @@ BEFORE = 7
 def too_long(case, most):
     """Why the checker doesn't compute this case, or nothing."""
     head = case.answer[0].split()
-    is_read = head[0] == "ok" or int(head[1]) > 8
+    is_read = head[0] == "ok" or int(head[1]) not in refusals.CHECKS
     if is_read and len(case.file) > most:
-        return f"files of more than {most:,} bytes that pass checks 1 to 8"
+        return f"files of more than {most:,} bytes that pass checks 1 to 8 and 15"
     if head[0] == "ok" and case.file[14] == 1 and int(head[2]) >= 10:
         return "Optimal with 10 odd nodes or more"
+    if is_read and case.file[15] & 4 and lines_in(case.file) > MOST_LINES_LINKED:
+        return f"links made for more than {MOST_LINES_LINKED} lines"
     return None
+
+
+# Four candidates for each two lines are sorted: the checker takes too many steps for 24 lines.
+MOST_LINES_LINKED = 20
+
+
+def lines_in(file):
+    """How many lines a file has that passes the checks of a file."""
+    count, at = 0, 0
+    while at < len(file):
+        length, kind = struct.unpack_from("<IH", file, at)
+        count += kind == 2
+        at += 6 + length
+    return count
 
 
 def numbers(values, rest="[]"):

@@ -1,8 +1,9 @@
 #!/usr/bin/env python3
 """Writes crates/file_cases/data/cases: drawing files with what the reader has to answer to each.
 
-Every refusal from 1 to 8 and both sides of every limit. What is expected is worked out here, from document 01,
-with exact fractions. All numbers are little-endian; the file is a u16 count of cases and then, for each case,
+Every refusal from 1 to 8, and 15 between 6 and 7, and both sides of every limit. What is expected is worked out here,
+from documents 01 and 02, with exact fractions. All numbers are little-endian; the file is a u16 count of cases and
+then, for each case,
   u8 runs, and for each run a u32 repeat, a u16 length and the bytes (the drawing file is the runs, repeated),
   u8 refusal (0: accepted), u32 checksum of the settings, the lines and all arrays of places,
   u16 links, and for each four u16 (line, segment, line, segment) and four u32 places (x, y, x, y).
@@ -48,7 +49,7 @@ def zeros(kind, size):
     return [(1, struct.pack("<IH", size, kind)), (size, b"\0")]
 
 
-# ---- document 01, read as it stands
+# ---- document 01, with what CR 1 adds, read as it stands
 
 def place_of(bits):
     """A coordinate's place, or None where check 7 refuses it."""
@@ -89,10 +90,12 @@ def read(data):
     if len(top) != 10 or any(len(b) % 16 for b in lines) or any(len(b) != 40 for b in links):
         return 4, None
     width, height, pairing, flags = struct.unpack("<IIBB", top)
-    if width > 8192 or height > 8192 or pairing > 1 or flags > 3:
+    if width > 8192 or height > 8192 or pairing > 1 or flags > 7:
         return 5, None
     if len(lines) > 256 or sum(len(b) for b in lines) // 16 > 1024 or len(links) > 255:
         return 6, None
+    if flags & 4 and links:
+        return 15, None
     places = [[place_of(w) for w in struct.unpack(f"<{len(b) // 8}Q", b)] for b in lines]
     ends = [[place_of(w) for w in struct.unpack("<4Q", b[8:])] for b in links]
     if any(p is None for row in places + ends for p in row):
@@ -188,9 +191,9 @@ def cases():
         yield once(settings(height=side))
     for pairing in (0, 1, 2, 255):
         yield once(settings(pairing=pairing))
-    for flags in (0, 1, 2, 3, 4, 255):
+    for flags in (0, 1, 2, 3, 4, 5, 6, 7, 8, 9, 12, 16, 128, 255):
         yield once(settings(flags=flags))
-    yield [(1, settings(flags=4)), (257, record(2, b""))]   # and not 6
+    yield [(1, settings(flags=8)), (257, record(2, b""))]   # and not 6
 
     # check 6
     yield [(1, base), (256, record(2, b""))]
@@ -205,6 +208,25 @@ def cases():
     yield [(1, base), (2, pair), (255, some)]
     yield [(1, base), (2, pair), (256, some)]
     yield [(1, base), (257, line((minus_zero, 0.0)))]        # and not 7
+
+    # check 15: a link for each value of the flags, and none; the neighbours, each also with a link and no flag
+    other = line((1.0, 0.0), (1.0, 2.0))
+    joined = link((0, 0), (1, 0), ((0.0, 0.0), (1.0, 0.0)))
+    for flags in range(8):
+        yield once(settings(flags=flags), pair, other, joined)
+        yield once(settings(flags=flags), pair, line(), other)
+    yield once(settings(flags=4), link((0, 0), (0, 0)))
+    yield [(1, settings(flags=4)), (2, pair), (255, some)]
+    yield once(settings(flags=12), pair, other, joined)                                  # 5 and not 15
+    yield once(settings(pairing=2, flags=4), pair, other, joined)
+    yield [(1, settings(flags=4)), (2, pair), (256, some)]                               # 6 and not 15
+    yield [(1, settings(flags=4)), (257, dot), (1, some)]
+    for flags in (0, 4):
+        yield once(settings(flags=flags), pair, line((minus_zero, 0.0)), joined)         # 15 and not 7
+        yield once(settings(flags=flags), pair, other, link((0, 0), (1, 0), ((nan, 0.0), (1.0, 0.0))))
+        yield once(settings(flags=flags), pair, other, link((0, 1), (1, 0)))             # 15 and not 8
+        yield once(settings(flags=flags), pair, line(), link((0, 0), (1, 0)))
+        yield once(settings(flags=flags), pair, other, joined, link((9, 0), (0, 0), ((nan, 0.0), (0.0, 0.0))))
 
     # check 7: in a line, x and y, first and last; in each coordinate of a link
     for value in (4096.0, 4096.0 + step, -4096.0, -4096.0 - step, step, -step, step / 2, 4096.0 - step, 0.0,
@@ -240,12 +262,13 @@ def cases():
     def anywhere():
         return chance.randint(-ORIGIN, ORIGIN) / STEPS or 0.0
 
-    for _ in range(12):
+    for number in range(16):
+        flags = number % 8
         counts = [chance.choice((0, 1, 2, 3, 5, 9)) for _ in range(chance.randint(1, 12))]
-        parts = [settings(chance.randint(0, 8192), chance.randint(0, 8192), chance.randint(0, 1), chance.randint(0, 3))]
+        parts = [settings(chance.randint(0, 8192), chance.randint(0, 8192), chance.randint(0, 1), flags)]
         parts += [line(*((anywhere(), anywhere()) for _ in range(n))) for n in counts]
         full_lines = [i for i, n in enumerate(counts) if n]
-        for _ in range(chance.randint(0, 6) if full_lines else 0):
+        for _ in range(chance.randint(0, 6) if full_lines and not flags & 4 else 0):
             a, b = chance.choice(full_lines), chance.choice(full_lines)
             named = [(i, chance.randint(0, max(0, counts[i] - 2))) for i in (a, b)]
             parts.append(link(*named, ((anywhere(), anywhere()), (anywhere(), anywhere()))))
@@ -272,7 +295,7 @@ def main():
     os.makedirs(os.path.dirname(path), exist_ok=True)
     with open(path, "wb") as out:
         out.write(struct.pack("<H", len(packed)) + b"".join(packed))
-    counted = ", ".join(f"{answers.count(n)} of {n}" for n in range(9))
+    counted = ", ".join(f"{answers.count(n)} of {n}" for n in (0, 1, 2, 3, 4, 5, 6, 15, 7, 8))
     print(f"{len(packed)} files: {counted}; {os.path.getsize(path)} bytes")
 
 

@@ -1,1 +1,1 @@
-"""What the commands of tools/ share: drawing files, their text, their graph, refusals in words, pictures."""
+"""What the commands of tools/ share: drawing files, their text, links that the planner makes, the graph, refusals in words, pictures."""

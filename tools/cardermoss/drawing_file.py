@@ -14,7 +14,7 @@ REACH = 4096                    # the largest coordinate, in pixels
 NEGATIVE_ZERO = 1 << 63
 
 GREEDY, OPTIMAL = 0, 1          # pairing
-CLOSE, INSIDE = 1, 2            # flags
+CLOSE, INSIDE, LINKING = 1, 2, 4  # flags, each a bit
 
 PLAN_F64, PLAN_BYTES, PLAN_OUTPUT = 2**12 + 12**2, 2**12, 6 + 16 * 4001  # what the program `plan` lends
 
@@ -68,6 +68,11 @@ def steps_of(bits):
 
 def in_steps(point):
     return steps_of(point[0]), steps_of(point[1])
+
+
+def squared(p, q):
+    """The squared distance of two points in grid steps."""
+    return (p[0] - q[0]) ** 2 + (p[1] - q[1]) ** 2
 
 
 # ---- reading

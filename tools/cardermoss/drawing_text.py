@@ -4,7 +4,7 @@ A row is one of these; '#' starts a comment, and a row with nothing else is pass
 
     canvas WIDTH HEIGHT
     pairing greedy | optimal
-    flags none | close | inside | close inside
+    flags none | close | inside | link, or several of the last three
     line (X, Y) (X, Y) ..
     link line L segment S (X, Y) to line M segment T (X, Y)
 
@@ -19,7 +19,8 @@ from fractions import Fraction
 from . import drawing_file as f
 
 PAIRINGS = {"greedy": f.GREEDY, "optimal": f.OPTIMAL}
-FLAGS = {"none": 0, "close": f.CLOSE, "inside": f.INSIDE, "close inside": f.CLOSE | f.INSIDE}
+FLAG_WORDS = {"close": f.CLOSE, "inside": f.INSIDE, "link": f.LINKING}  # in the order of the alphabet
+FLAGS = {" ".join(word for word, bit in FLAG_WORDS.items() if flags & bit) or "none": flags for flags in range(8)}
 
 
 # ---- file to text
@@ -50,6 +51,11 @@ def point_text(point):
     return f"({coordinate_text(point[0])}, {coordinate_text(point[1])})"
 
 
+def link_text(link):
+    return (f"link line {link.line_a} segment {link.segment_a} {point_text(link.a)} "
+            f"to line {link.line_b} segment {link.segment_b} {point_text(link.b)}")
+
+
 def text_of(file):
     """The text of any file."""
     records, cut = f.split(file)
@@ -66,8 +72,7 @@ def text_of(file):
             rows.append(" ".join(["line", *map(point_text, f.points_in(r.body))]))
         else:
             l = f.link_in(r.body)
-            rows.append(f"link line {l.line_a} segment {l.segment_a} {point_text(l.a)} "
-                        f"to line {l.line_b} segment {l.segment_b} {point_text(l.b)}")
+            rows.append(link_text(l))
     if cut is not None:
         rows.append(f"bytes {file[cut:].hex()}")
     return "".join(row + "\n" for row in rows)

@@ -1,17 +1,14 @@
 """A drawing's graph as `build_graph` makes it: chains, pieces, links, what can be reached, odd points.
 
-Points are pairs of whole grid steps, all numbers exact. The drawing has passed conditions 1 to 8.
+Points are pairs of whole grid steps, all numbers exact. The drawing has passed conditions 1 to 8 and 15. Its links are
+those that it is planned with: its own, or those that are made for it.
 """
 import collections
 
-from .drawing_file import in_steps
+from .drawing_file import in_steps, squared
+from .made_links import planned
 
 Graph = collections.namedtuple("Graph", "points lines links pieces parts odd")
-
-
-def squared(p, q):
-    """The squared distance, in grid steps."""
-    return (p[0] - q[0]) ** 2 + (p[1] - q[1]) ** 2
 
 
 def chain(start, end, split_points):
@@ -42,6 +39,7 @@ def graph(drawing):
     """points: all nodes, in order of first use. lines and links: the drawing's, in grid steps. pieces: (p, q, line,
     segment). parts: lists of points, the one of the first node first. odd: the points where an odd number of pieces
     and links ends."""
+    drawing = planned(drawing)
     lines = [[in_steps(p) for p in line] for line in drawing.lines]
     links = [l._replace(a=in_steps(l.a), b=in_steps(l.b)) for l in drawing.links]
     named = collections.defaultdict(list)  # the link ends that name a segment

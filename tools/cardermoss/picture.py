@@ -1,6 +1,7 @@
 """A drawing and its plan as SVG: each step of the line once, retraces beside the line, the order by numbers and arrows.
 
-For a refused drawing: what was drawn, with what is wrong marked.
+Links that the planner made are told apart from those of the file. For a refused drawing: what was drawn, with what is
+wrong marked.
 """
 import collections
 import math
@@ -9,7 +10,8 @@ from xml.sax.saxutils import escape
 from . import drawing_file as f
 from .drawing_text import coordinate_text, point_text
 from .graph import graph
-from .refusals import pixels, told
+from .made_links import planned
+from .refusals import CHECKS, pixels, told
 
 SIDE, LEAST, MARGIN, ROW = 840, (480, 120), 48, 20  # the sheet, in its own units: longer side, least sides, margin, row of text
 GAP = 9                                         # between the furrows of one stroke
@@ -17,20 +19,28 @@ LETTER = 0.57                                   # the mean width of a letter, in
 
 STYLE = """
 .sheet { fill: #fbf6ea } .canvas { fill: #f1e4c8; stroke: #d9c59a }
-.piece, .link, .retrace, .wrong { fill: none; stroke-width: 2.4; stroke-linecap: round; stroke-linejoin: round }
+.piece, .link, .made, .retrace, .wrong { fill: none; stroke-width: 2.4; stroke-linecap: round; stroke-linejoin: round }
 .piece { stroke: #4b3621 } .link { stroke: #1769aa; stroke-dasharray: 7 5 } .retrace { stroke: #d1495b }
+.made { stroke: #8a3ffc; stroke-dasharray: 1 5 } .met { fill: none; stroke: #8a3ffc; stroke-width: 1.8 }
 .wrong { stroke: #c1121f; stroke-width: 4.5 } .ring { fill: none; stroke: #c1121f; stroke-width: 2.4 }
-.arrow { stroke: none } .of-piece { fill: #4b3621 } .of-link { fill: #1769aa } .of-retrace { fill: #d1495b } .of-wrong { fill: #c1121f }
+.arrow { stroke: none } .of-piece { fill: #4b3621 } .of-link { fill: #1769aa } .of-made { fill: #8a3ffc } .of-retrace { fill: #d1495b } .of-wrong { fill: #c1121f }
 .start { fill: #2a7f3f } .end { fill: #c1121f }
 text { font-family: sans-serif; fill: #2b2118 }
 .label { paint-order: stroke; stroke: #fbf6ea; stroke-width: 3px; stroke-linejoin: round }
 """
 
+NAMES = {"piece": "drawn", "link": "link", "made": "link made by the planner", "retrace": "retrace"}
+
 Step = collections.namedtuple("Step", "p q kind furrow")
 
 
-def steps_of(made, points):
-    """The steps of a line, each with its kind and its furrow.
+def link_kind(drawing):
+    """What a drawing's links are drawn as: all are made by the planner, or all are its own."""
+    return "made" if drawing.settings.flags & f.LINKING else "link"
+
+
+def steps_of(made, points, link="link"):
+    """The steps of a line, each with its kind and its furrow; link is the kind of the links.
 
     The first steps between two points are the pieces there, then the links; every later one is a retrace, since a retrace
     goes over what is already drawn and steps between two points can't be told apart. The furrow is 0, or the first one
@@ -43,7 +53,7 @@ def steps_of(made, points):
         among = pair(p, q)
         before = passed[among]
         passed[among] += 1
-        kind = "piece" if before < pieces[among] else "link" if before < pieces[among] + links[among] else "retrace"
+        kind = "piece" if before < pieces[among] else link if before < pieces[among] + links[among] else "retrace"
         # the straight line that the step lies on, and from where to where
         dx, dy = (among[1][i] - among[0][i] for i in (0, 1))
         dx, dy = dx // math.gcd(dx, dy), dy // math.gcd(dx, dy)
@@ -239,11 +249,12 @@ def wrapped(rows, wide):
 
 def of_plan(file, answer, title="drawing"):
     """The picture of an accepted drawing: answer is what the planner gave."""
-    drawing = f.assembled(f.split(file)[0])
+    drawing = planned(f.assembled(f.split(file)[0]))
     made = graph(drawing)
     sheet = sheet_for(drawing)
     place = lambda p: sheet.place((p[0] / f.STEPS, p[1] / f.STEPS))
-    steps = list(steps_of(made, answer.points))
+    link = link_kind(drawing)
+    steps = list(steps_of(made, answer.points, link))
     ways = [furrow(place(s.p), place(s.q), s.furrow) for s in steps]
     marks, parts = [], []
     sheet.size = 15 if len(steps) <= 40 else 11
@@ -260,22 +271,33 @@ def of_plan(file, answer, title="drawing"):
             marks.append(label(sheet, last, "end"))
         marks.append(f'<circle class="start" cx="{number(first[0])}" cy="{number(first[1])}" r="6.5"/>')
         marks.append(label(sheet, first, "start and end" if closed else "start"))
+    met = list(meetings(sheet, drawing, link))
     # round numbers first, so that they stay where there is no room for all
     apart = 1 if len(steps) <= 250 else 5 if len(steps) <= 1000 else 25
     numbered = [i for i in range(len(steps)) if (i + 1) % apart == 0]
     numbers = {}
     for i in sorted(numbered, key=lambda i: ((i + 1) % 10 != 0, (i + 1) % 5 != 0, i)):
         numbers[i] = step_number(sheet, heads[i], str(i + 1))
-    names = {"piece": "drawn", "link": "link", "retrace": "retrace"}
     for i, (s, way) in enumerate(zip(steps, ways)):
-        words = f"step {i + 1}: {point_text(pixels(s.p))} to {point_text(pixels(s.q))}, {names[s.kind]}"
+        words = f"step {i + 1}: {point_text(pixels(s.p))} to {point_text(pixels(s.q))}, {NAMES[s.kind]}"
         parts.append(f'<g class="step" data-step="{i + 1}"><title>{escape(words)}</title>'
                      f'<path class="{s.kind}" d="{route(way)}"/>{arrow(heads[i], s.kind)}</g>')
     count = collections.Counter(s.kind for s in steps)
-    rows = [legend([(kind, f"{names[kind]} ({count[kind]})") for kind in ("piece", "link", "retrace")]),
+    rows = [legend([(kind, f"{NAMES[kind]} ({count[kind]})") for kind in ("piece", link, "retrace")]),
             f"{len(steps)} steps; {answer.retrace:.6g} pixels retraced; odd points before repair {answer.before}, after {answer.after}"]
+    rows += [f"small rings: links that the planner made where ends of lines meet ({len(met)}); they draw nothing"] if met else []
     rows += canvas_row(sheet)
-    return page(sheet, parts + [numbers[i] for i in numbered] + marks, rows, f"{title}: the line as it is drawn")
+    return page(sheet, parts + met + [numbers[i] for i in numbered] + marks, rows, f"{title}: the line as it is drawn")
+
+
+def meetings(sheet, drawing, link):
+    """A small ring where a link was made between ends that meet, which draws nothing itself."""
+    for l in drawing.links if link == "made" else ():
+        if l.a == l.b:
+            x, y = sheet.place(floats(l.a))
+            sheet.taken.append((x - 8, y - 8, x + 8, y + 8))
+            words = f"link made between line {l.line_a} and line {l.line_b}, whose ends meet at {point_text(l.a)}"
+            yield f'<circle class="met" cx="{number(x)}" cy="{number(y)}" r="9"><title>{escape(words)}</title></circle>'
 
 
 def canvas_row(sheet):
@@ -286,15 +308,19 @@ def canvas_row(sheet):
 def of_refusal(file, refusal, title="drawing"):
     """The picture of a refused drawing: what was drawn, and what is wrong with it."""
     drawing = f.assembled(f.split(file)[0])
+    link = "link"
+    if refusal.number not in CHECKS:
+        drawing, link = planned(drawing), link_kind(drawing)
     sheet = sheet_for(drawing)
     at = lambda point: sheet.place(floats(point))
     wrong_strokes = {frozenset(stroke) for finding in refusal.findings for stroke in finding.strokes}
     parts, labels = [], []
-    strokes = pieces_or_segments(drawing, refusal) + [(l.a, l.b, "link") for l in drawing.links if l.a != l.b]
+    strokes = pieces_or_segments(drawing, refusal) + [(l.a, l.b, link) for l in drawing.links if l.a != l.b]
     for p, q, kind in strokes:
         kind_now = "wrong" if frozenset((p, q)) in wrong_strokes else kind
         sheet.stroke([at(p), at(q)])
         parts.append(f'<path class="{kind_now}"{dashed(kind, kind_now)} d="{route([at(p), at(q)])}"/>')
+    parts += meetings(sheet, drawing, link)
     for line in drawing.lines:
         if len(line) == 1:
             x, y = at(line[0])
@@ -326,6 +352,6 @@ def dashed(kind, kind_now):
 
 def pieces_or_segments(drawing, refusal):
     """The strokes of the lines: pieces where the drawing has a graph, otherwise segments."""
-    if refusal.number >= 9:
+    if refusal.number not in CHECKS:
         return [(pixels(p), pixels(q), "piece") for p, q, *_ in graph(drawing).pieces]
     return [(p, q, "piece") for line in drawing.lines for p, q in zip(line, line[1:]) if p != q]

@@ -1,4 +1,4 @@
-"""Why a drawing is refused, in words: conditions 1 to 11 of docs/DRAWING-FILE.md, from the file alone.
+"""Why a drawing is refused, in words: conditions 1 to 11 and 15 of docs/DRAWING-FILE.md, from the file alone.
 
 12 to 14 depend on the planner's own work: for these the planner is asked, and `by_the_planner` has the words.
 """
@@ -8,9 +8,9 @@ import struct
 
 from . import drawing_file as f
 from .drawing_text import coordinate_text, point_text, steps_text
-from .graph import graph, squared
+from .graph import graph
 
-MOST_BYTES, MOST_SIDE, MOST_PAIRING, MOST_FLAGS = 65536, 8192, 1, 3
+MOST_BYTES, MOST_SIDE, MOST_PAIRING, MOST_FLAGS = 65536, 8192, 1, 7
 MOST_LINES, MOST_POINTS, MOST_LINKS = 256, 1024, 255
 MOST_OPTIMAL, MOST_EDGES = 20, 4000
 
@@ -34,10 +34,13 @@ CONDITIONS = {
     4: ("a record has not the length that its kind asks",
         "The program that saved the file made a mistake: settings have 10 bytes, a line 16 for each point, a link 40."),
     5: ("a setting is out of range",
-        f"Width and height go to {MOST_SIDE:,}, pairing is 0 (greedy) or 1 (optimal), flags are 0 to 3."),
+        f"Width and height go to {MOST_SIDE:,}, pairing is 0 (greedy) or 1 (optimal), flags are 0 to 7 (a text has words for them)."),
     6: ("there is too much in the drawing",
         f"At most {MOST_LINES} lines, {MOST_POINTS:,} points in all and {MOST_LINKS} links: draw curves with fewer points, "
         "or join lines that follow one another."),
+    15: ("the file has links of its own, though the planner is to make the links",
+         "With `link` among the flags the planner links the lines itself, and the file holds no links: take them out, or take `link` "
+         "away, and these are drawn and no others: they must then join all lines."),
     7: ("a coordinate is not on the grid",
         f"Coordinates are whole multiples of 1/{f.STEPS} from -{f.REACH:,} to {f.REACH:,}, and zero has no minus sign: move the point."),
     8: ("a link names a line or a segment that is not there",
@@ -45,7 +48,7 @@ CONDITIONS = {
         "An empty line can't be linked."),
     9: ("some lines are not linked",
         "The ball can't be lifted, so every line must be reached over lines and links. Crossing is not joining: give both lines "
-        "a point there, or add a link."),
+        "a point there, or add a link. A drawing without any links can have them made by the planner: `flags link`."),
     10: ("too many odd points for optimal pairing",
          f"Optimal pairing takes at most {MOST_OPTIMAL} points where an odd number of strokes ends: choose greedy pairing, or "
          "join loose ends."),
@@ -68,7 +71,7 @@ def named(number, findings=()):
 
 
 def by_the_planner(file, number):
-    """The refusal that the planner gave a file to which conditions 1 to 11 don't apply."""
+    """The refusal that the planner gave a file to which conditions 1 to 11 and 15 don't apply."""
     return named(number, odd_points(graph(f.assembled(f.split(file)[0]))) if number == 13 else ())
 
 
@@ -77,7 +80,7 @@ def count(number, word):
 
 
 def first_refusal(file, f64=f.PLAN_F64, byte=f.PLAN_BYTES):
-    """The first of conditions 1 to 11 that holds, with tables of these lengths; None if none does."""
+    """The first of conditions 1 to 11 and 15 that holds, with tables of these lengths; None if none does."""
     records, cut = f.split(file)
     for number, check in CHECKS.items():
         findings = list(check(file, records, cut))
@@ -95,7 +98,7 @@ def first_refusal(file, f64=f.PLAN_F64, byte=f.PLAN_BYTES):
     return None
 
 
-# ---- conditions 1 to 8: each gives its findings
+# ---- conditions 1 to 8 and 15: each gives its findings
 
 def too_long(file, records, cut):
     if len(file) > MOST_BYTES:
@@ -169,6 +172,16 @@ def too_much(file, records, cut):
         return
 
 
+def own_links(file, records, cut):
+    if not f.settings_in(records[0].body).flags & f.LINKING:
+        return
+    links = [(number, f.link_in(r.body)) for number, r in enumerate(records) if r.kind == f.LINK]
+    for place, (number, link) in enumerate(links):
+        words = f"link {place}, from line {link.line_a} at {point_text(link.a)} to line {link.line_b} at {point_text(link.b)}, stands in the file"
+        marks = ([], [(link.a, link.b)]) if link.a != link.b else ([link.a], [])
+        yield Finding(words, number, *marks)
+
+
 def off_the_grid(file, records, cut):
     lines = links = 0
     for number, r in enumerate(records):
@@ -226,8 +239,9 @@ def astray(lines, line, segment):
     return None
 
 
-CHECKS = {1: too_long, 2: is_cut, 3: out_of_order, 4: wrong_length, 5: setting_out_of_range, 6: too_much, 7: off_the_grid,
-          8: link_astray}
+# In the order in which the planner checks them. Behind these a file says a drawing that can be planned.
+CHECKS = {1: too_long, 2: is_cut, 3: out_of_order, 4: wrong_length, 5: setting_out_of_range, 6: too_much, 15: own_links,
+          7: off_the_grid, 8: link_astray}
 
 FROM_THE_FILE = {*CHECKS, 9, 10, 11}  # what `first_refusal` tells
 
@@ -272,7 +286,7 @@ def joining(made, reached, inside):
     best = next(crossings, None)
     crosses = best is not None
     if not crosses:
-        best = min((squared(p, q), p, s, q, t) for s in ends[0] for t in ends[1] for p, q in nearest(s, t))
+        best = min((f.squared(p, q), p, s, q, t) for s in ends[0] for t in ends[1] for p, q in nearest(s, t))
     _, p, s, q, t = best
     ends = [f"line {line} segment {segment} {point_text(pixels(at))}" for (line, segment, *_), at in ((s, p), (t, q))]
     crossed = f", but line {t[0]} meets line {s[0]} near {point_text(pixels(p))}" if crosses else ""
@@ -311,7 +325,7 @@ def nearest(s, t):
 def foot_on(point, segment):
     """The foot of the perpendicular from a point, where it lies on the segment and on the grid."""
     p, q = segment[2:]
-    length = squared(p, q)
+    length = f.squared(p, q)
     part = (point[0] - p[0]) * (q[0] - p[0]) + (point[1] - p[1]) * (q[1] - p[1])
     if 0 < part < length and all((q[i] - p[i]) * part % length == 0 for i in (0, 1)):
         yield tuple(p[i] + (q[i] - p[i]) * part // length for i in (0, 1))

@@ -1,19 +1,21 @@
 -- Laws of specs/Accepted.
-use mathlib.Core.Path.{_≡_, _∙_}
+use mathlib.Core.Path.{_≡_, refl, sym, ap, _∙_}
 use mathlib.Core.List.{List, [], _∷_}
-use mathlib.Core.Bool.{Bool, true}
+use mathlib.Core.Bool.{Bool, true, not, _||_}
 use Prim.Native.Nat.{ℕ}
+use native.Mathlib.Omega.{arith}
 use lib.ListN.{length}
-use borrow.Author.Tests.{ltb-false, leb-true, not-false}
+use lib.Dec.{eqb}
+use borrow.Author.Tests.{ltb-false, leb-true, eqb-true, not-false}
 use Rattle.limits.specs.Limits.{mostBytes, mostLines, mostPoints, mostLinks}
-use Rattle.limits.specs.Limits.{refusedBytes, refusedCut, refusedKinds, refusedLengths, refusedSettings, refusedCounts, refusedCoordinates, refusedLinks}
-use Rattle.drawing_spec.specs.Drawing.{Drawing}
+use Rattle.limits.specs.Limits.{refusedBytes, refusedCut, refusedKinds, refusedLengths, refusedSettings, refusedCounts, refusedOwnLinks, refusedCoordinates, refusedLinks}
+use Rattle.drawing_spec.specs.Drawing.{DrawingOf, LinkOf, Drawing, linking}
 use Rattle.lists.specs.Members.{All}
 use Rattle.drawing_spec.proofs.Same.{both}
 use Rattle.drawing_spec.specs.Refusal.{accepted, verdict, until, holds}
 use Rattle.drawing_spec.proofs.Refusal.{fails, accepted-before}
-use Rattle.drawing_spec.proofs.Placed.{counts-placed, links-placed}
-use Rattle.drawing_spec.specs.Read.{sketchOf, drawingOf, every, kindsFit, lengthsFit, settingsFit, countsFit, coordinatesFit, linksFit, recordsOf, readConditions}
+use Rattle.drawing_spec.proofs.Placed.{counts-placed, own-links-placed, links-placed}
+use Rattle.drawing_spec.specs.Read.{sketchOf, drawingOf, every, kindsFit, lengthsFit, settingsFit, countsFit, ownLinksFit, coordinatesFit, linksFit, recordsOf, readConditions}
 use Rattle.drawing_spec.specs.Accepted.{Passed, Counts, InLimits}
 use Rattle.drawing_spec.proofs.OnGrid.{lines-on, links-on}
 
@@ -31,6 +33,7 @@ passes file e =
       long = not-false (lengthsFit rs) (none refusedLengths);
       settings-fit = not-false (settingsFit (sketchOf rs .settings)) (none refusedSettings);
       few = not-false (countsFit (sketchOf rs)) (none refusedCounts);
+      own-links = not-false (ownLinksFit (sketchOf rs)) (none refusedOwnLinks);
       on-grid = not-false (coordinatesFit (sketchOf rs)) (none refusedCoordinates);
     }
 
@@ -62,3 +65,19 @@ pub every-all : {A : Type 0} (f : A → Bool) (xs : List A) → every f xs ≡ t
 unfolding every
 every-all f [] e = tt
 every-all f (x ∷ xs) e = let t = both (f x) (every f xs) e in (t .0, every-all f xs (t .1))
+
+-- ---- where the planner makes the links, a file that passes has none of its own
+
+none-held : {C : Type 0} (ks : List (LinkOf C)) → length ks ≡ 0 → ks ≡ []
+none-held [] e = refl
+none-held (k ∷ ks) e = absurd (omega arith)
+
+no-links : {C : Type 0} (d : DrawingOf C) → ownLinksFit d ≡ true → linking (d .settings) ≡ true → d .links ≡ []
+unfolding ownLinksFit
+no-links d e h = none-held (d .links) (eqb-true (length (d .links)) 0 (sym (ap (λ (b : Bool). not b || eqb (length (d .links)) 0) h) ∙ e))
+
+pub sketch-no-links : (file : List ℕ) → Passed file → linking (sketchOf (recordsOf file) .settings) ≡ true → sketchOf (recordsOf file) .links ≡ []
+sketch-no-links file p h = no-links (sketchOf (recordsOf file)) (p .own-links) h
+
+pub drawing-no-links : (file : List ℕ) → Passed file → linking (drawingOf (recordsOf file) .settings) ≡ true → drawingOf (recordsOf file) .links ≡ []
+drawing-no-links file p h = no-links (drawingOf (recordsOf file)) (own-links-placed (recordsOf file) ∙ p .own-links) h

@@ -9,7 +9,7 @@ use Rattle.limits.specs.Limits.{kindLine, kindLink}
 use Rattle.grid.specs.Grid.{readPlace, placeAt}
 use Rattle.drawing_spec.specs.Bytes.{number}
 use Rattle.drawing_spec.specs.Drawing.{PointOf, EndOf, LinkOf, Link, DrawingOf, overPoint, overEnd, overLink, over}
-use Rattle.drawing_spec.specs.Read.{Record, placed, spotsOfLine, sketchedLink, bodies, sketchOf, drawingOf, point, points, pointsOfLine, linkOf, every, countsFit, endFits, linksFit}
+use Rattle.drawing_spec.specs.Read.{Record, placed, spotsOfLine, sketchedLink, bodies, sketchOf, drawingOf, point, points, pointsOfLine, linkOf, every, countsFit, ownLinksFit, endFits, linksFit}
 
 -- ---- the drawing of a file's records, body by body
 
@@ -48,7 +48,7 @@ pub no-points : (bs : List ℕ) → points 0 bs ≡ []
 unfolding points
 no-points bs = refl
 
--- ---- checks 6 and 8 do not look at coordinates
+-- ---- checks 6, 15 and 8 do not look at coordinates
 
 module _ {A B : Type 0} (f : A → B) where
   lengths-over : (ls : List (List (PointOf A))) → map (λ (l : List (PointOf B)). length l) (map (map (overPoint f)) ls) ≡ map (λ (l : List (PointOf A)). length l) ls
@@ -57,6 +57,10 @@ module _ {A B : Type 0} (f : A → B) where
   pub counts-over : (d : DrawingOf A) → countsFit (over f d) ≡ countsFit d
   unfolding countsFit over
   counts-over d = rw (length-map (d .lines) (map (overPoint f)), lengths-over (d .lines), length-map (d .links) (overLink f))
+
+  pub own-links-over : (d : DrawingOf A) → ownLinksFit (over f d) ≡ ownLinksFit d
+  unfolding ownLinksFit over
+  own-links-over d = rw (length-map (d .links) (overLink f))
 
   line-over : (ls : List (List (PointOf A))) (i : ℕ) → length (getD (map (map (overPoint f)) ls) i []) ≡ length (getD ls i [])
   line-over [] i = refl
@@ -81,6 +85,10 @@ module _ {A B : Type 0} (f : A → B) where
 pub counts-placed : (rs : List Record) → countsFit (drawingOf rs) ≡ countsFit (sketchOf rs)
 unfolding drawingOf
 counts-placed rs = counts-over placed (sketchOf rs)
+
+pub own-links-placed : (rs : List Record) → ownLinksFit (drawingOf rs) ≡ ownLinksFit (sketchOf rs)
+unfolding drawingOf
+own-links-placed rs = own-links-over placed (sketchOf rs)
 
 pub links-placed : (rs : List Record) → linksFit (drawingOf rs) ≡ linksFit (sketchOf rs)
 unfolding drawingOf

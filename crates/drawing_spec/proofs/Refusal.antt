@@ -28,6 +28,22 @@ one-more [] n t e h = rw h
 one-more (condition k true ∷ cs) n t e h = e
 one-more (condition k false ∷ cs) n t e h = one-more cs n t e h
 
+-- and may as well not be there
+unfoldable pub without : ℕ → List Condition → List Condition
+without n [] = []
+without n (condition k t ∷ cs) = elim (eqb k n) [ true ↦ cs | false ↦ condition k t ∷ without n cs ]
+
+pub one-fewer : (n : ℕ) (cs : List Condition) → holds n cs ≡ false → verdict cs ≡ verdict (without n cs)
+unfolding verdict holds without
+one-fewer n [] h = refl
+one-fewer n (condition k t ∷ cs) h = go (one-fewer n cs) (eqb k n) t h
+  where
+    go : (holds n cs ≡ false → verdict cs ≡ verdict (without n cs)) → (b t : Bool) → elim b [ true ↦ t | false ↦ holds n cs ] ≡ false → verdict (condition k t ∷ cs) ≡ verdict (elim b [ true ↦ cs | false ↦ condition k t ∷ without n cs ])
+    go later true true h = absurd (true≢false h)
+    go later true false h = refl
+    go later false true h = refl
+    go later false false h = later h
+
 -- the first that holds: none before it does
 pub first-holds : (n : ℕ) (cs : List Condition) → verdict (until n cs) ≡ accepted → holds n cs ≡ true → verdict cs ≡ refused n
 unfolding verdict until holds

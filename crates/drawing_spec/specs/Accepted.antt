@@ -1,4 +1,4 @@
--- What is known of a file that none of checks 1 to 7 refuses, and of its drawing; and what is asked of a drawing that has no file.
+-- What is known of a file that none of checks 1 to 7 and 15 refuses, and of its drawing; and what is asked of a drawing that has no file.
 use mathlib.Core.Path.{_≡_}
 use mathlib.Core.List.{List, map}
 use mathlib.Core.Bool.{true, false}
@@ -8,7 +8,7 @@ use Rattle.limits.specs.Limits.{mostBytes, mostLines, mostPoints, mostLinks}
 use Rattle.drawing_spec.specs.Drawing.{Point, Drawing}
 use Rattle.lists.specs.Members.{All}
 use Rattle.drawing_spec.specs.OnGrid.{OnGrid, AtEnds}
-use Rattle.drawing_spec.specs.Read.{total, recordsOf, isCut, sketchOf, kindsFit, lengthsFit, settingsFit, countsFit, coordinatesFit}
+use Rattle.drawing_spec.specs.Read.{total, recordsOf, isCut, sketchOf, kindsFit, lengthsFit, settingsFit, countsFit, ownLinksFit, coordinatesFit}
 
 -- ---- a file: one field for each of the checks before check 8
 
@@ -19,6 +19,7 @@ pub record Passed (file : List ℕ) : Type 0 where
   pub long : lengthsFit (recordsOf file) ≡ true
   pub settings-fit : settingsFit (sketchOf (recordsOf file) .settings) ≡ true
   pub few : countsFit (sketchOf (recordsOf file)) ≡ true
+  pub own-links : ownLinksFit (sketchOf (recordsOf file)) ≡ true
   pub on-grid : coordinatesFit (sketchOf (recordsOf file)) ≡ true
 
 -- ---- a drawing: check 6

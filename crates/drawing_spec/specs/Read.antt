@@ -7,10 +7,10 @@ use lib.Dec.{eqb, leb, ltb}
 use Rattle.grid.specs.Grid.{readPlace, readOnGrid, placeAt, onGrid}
 use Rattle.limits.specs.Limits.{headSize, kindSettings, kindLine, kindLink, settingsSize, pointSize, linkSize}
 use Rattle.limits.specs.Limits.{mostBytes, mostSide, mostPairing, mostFlags, mostLines, mostPoints, mostLinks}
-use Rattle.limits.specs.Limits.{refusedBytes, refusedCut, refusedKinds, refusedLengths, refusedSettings, refusedCounts, refusedCoordinates, refusedLinks}
+use Rattle.limits.specs.Limits.{refusedBytes, refusedCut, refusedKinds, refusedLengths, refusedSettings, refusedCounts, refusedOwnLinks, refusedCoordinates, refusedLinks}
 use Rattle.drawing_spec.specs.Bytes.{number}
 use Rattle.drawing_spec.specs.Refusal.{Condition, condition}
-use Rattle.drawing_spec.specs.Drawing.{PointOf, Point, Settings, EndOf, LinkOf, DrawingOf, Link, Pattern, Sketch, Drawing, overPoint, overLink, over}
+use Rattle.drawing_spec.specs.Drawing.{PointOf, Point, Settings, EndOf, LinkOf, DrawingOf, Link, Pattern, Sketch, Drawing, linking, overPoint, overLink, over}
 
 -- ---- records: a 4-byte body length, a 2-byte kind, the body
 
@@ -154,6 +154,10 @@ countsFit {C} d =
     && leb (total (map (λ (l : List (PointOf C)). length l) (d .lines))) mostPoints
     && leb (length (d .links)) mostLinks
 
+-- 15: no links of its own where the planner makes them
+unfoldable pub ownLinksFit : {C : Type 0} → DrawingOf C → Bool
+ownLinksFit d = not (linking (d .settings)) || eqb (length (d .links)) 0
+
 -- 7
 abbrev pub coordinateFits : Pattern → Bool
 coordinateFits w = onGrid (readPlace (w .bits))
@@ -175,18 +179,19 @@ unfoldable pub linksFit : {C : Type 0} → DrawingOf C → Bool
 unfolding every endFits
 linksFit {C} d = every (λ (l : LinkOf C). endFits (d .lines) (l .first) && endFits (d .lines) (l .second)) (d .links)
 
--- ---- conditions 5 to 8, of a sketch, whether or not a file holds it
+-- ---- conditions 5, 6, 15, 7 and 8, of a sketch, whether or not a file holds it
 
 unfoldable pub sketchConditions : Sketch → List Condition
-unfolding settingsFit countsFit coordinatesFit linksFit
+unfolding settingsFit countsFit ownLinksFit coordinatesFit linksFit
 sketchConditions s =
     condition refusedSettings (not (settingsFit (s .settings)))
     ∷ condition refusedCounts (not (countsFit s))
+    ∷ condition refusedOwnLinks (not (ownLinksFit s))
     ∷ condition refusedCoordinates (not (coordinatesFit s))
     ∷ condition refusedLinks (not (linksFit s))
     ∷ []
 
--- ---- conditions 1 to 8 of a file, in document 01's order, and the drawing of a file that meets none
+-- ---- conditions 1 to 8 and 15 of a file, in the papers' order, and the drawing of a file that meets none
 
 unfoldable pub recordsOf : List ℕ → List Record
 unfolding split

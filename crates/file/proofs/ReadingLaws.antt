@@ -8,10 +8,10 @@ use lib.ListN.{length}
 use lib.Dec.{ltb}
 use borrow.Author.Tests.{lt-ltb, le-ltb}
 use Rattle.limits.specs.Limits.{mostBytes}
-use Rattle.limits.specs.Limits.{refusedBytes, refusedCut, refusedKinds, refusedLengths, refusedSettings, refusedCounts, refusedCoordinates, refusedLinks}
+use Rattle.limits.specs.Limits.{refusedBytes, refusedCut, refusedKinds, refusedLengths, refusedSettings, refusedCounts, refusedOwnLinks, refusedCoordinates, refusedLinks}
 use Rattle.drawing_spec.specs.Drawing as drawn
 use Rattle.drawing_spec.specs.Refusal as refusal
-use Rattle.drawing_spec.specs.Read.{kindsFit, lengthsFit, settingsFit, countsFit, coordinatesFit, linksFit, every, recordsOf, isCut, sketchOf, drawingOf, readConditions}
+use Rattle.drawing_spec.specs.Read.{kindsFit, lengthsFit, settingsFit, countsFit, ownLinksFit, coordinatesFit, linksFit, every, recordsOf, isCut, sketchOf, drawingOf, readConditions}
 use Rattle.drawing_spec.proofs.Refusal.{one-more, first-holds, refused-before, above-zero, number-refused}
 use Rattle.drawing_spec.specs.Accepted.{Passed}
 use Rattle.drawing_spec.proofs.Accepted.{passes, accepted-passes, accepted-links}
@@ -90,22 +90,31 @@ module _ (file : List ℕ) where
             refused-counts h = stop file refusedCounts at-counts (ap not h)
 
             module _ (c : countsFit (sketchOf (recordsOf file)) ≡ true) where
-              at-coordinates : Past file refusedCoordinates
+              at-own-links : Past file refusedOwnLinks
               unfolding readConditions refusal.until
-              at-coordinates = one-more (refusal.until refusedCounts (early file)) refusedCounts _ at-counts (ap not c)
+              at-own-links = one-more (refusal.until refusedCounts (early file)) refusedCounts _ at-counts (ap not c)
 
-              pub refused-coordinates : coordinatesFit (sketchOf (recordsOf file)) ≡ false → refusedCoordinates ≡ beforeLinks file
+              pub refused-own-links : ownLinksFit (sketchOf (recordsOf file)) ≡ false → refusedOwnLinks ≡ beforeLinks file
               unfolding readConditions refusal.until refusal.holds
-              refused-coordinates h = stop file refusedCoordinates at-coordinates (ap not h)
+              refused-own-links h = stop file refusedOwnLinks at-own-links (ap not h)
 
-              module _ (g : coordinatesFit (sketchOf (recordsOf file)) ≡ true) where
-                at-links : refusal.verdict (early file) ≡ refusal.accepted
+              module _ (o : ownLinksFit (sketchOf (recordsOf file)) ≡ true) where
+                at-coordinates : Past file refusedCoordinates
                 unfolding readConditions refusal.until
-                at-links = one-more (refusal.until refusedCoordinates (early file)) refusedCoordinates _ at-coordinates (ap not g)
+                at-coordinates = one-more (refusal.until refusedOwnLinks (early file)) refusedOwnLinks _ at-own-links (ap not o)
 
-                pub refused-none : 0 ≡ beforeLinks file
-                unfolding beforeLinks
-                refused-none = sym (ap refusal.refusalOf at-links)
+                pub refused-coordinates : coordinatesFit (sketchOf (recordsOf file)) ≡ false → refusedCoordinates ≡ beforeLinks file
+                unfolding readConditions refusal.until refusal.holds
+                refused-coordinates h = stop file refusedCoordinates at-coordinates (ap not h)
+
+                module _ (g : coordinatesFit (sketchOf (recordsOf file)) ≡ true) where
+                  at-links : refusal.verdict (early file) ≡ refusal.accepted
+                  unfolding readConditions refusal.until
+                  at-links = one-more (refusal.until refusedCoordinates (early file)) refusedCoordinates _ at-coordinates (ap not g)
+
+                  pub refused-none : 0 ≡ beforeLinks file
+                  unfolding beforeLinks
+                  refused-none = sym (ap refusal.refusalOf at-links)
 
 -- ---- what is known where none of them holds
 
@@ -130,7 +139,7 @@ module _ (file : List ℕ) where
 
   module _ (p : Passed file) where
     none-early : refusal.verdict (early file) ≡ refusal.accepted
-    none-early = at-links file (p .small) (p .is-whole) (p .in-order) (p .long) (p .settings-fit) (p .few) (p .on-grid)
+    none-early = at-links file (p .small) (p .is-whole) (p .in-order) (p .long) (p .settings-fit) (p .few) (p .own-links) (p .on-grid)
 
     pub refused-links : (r : Reading) → linksFit (sketchOf (recordsOf file)) ≡ false → r ≡ refusedAs refusedLinks → r ≡ readingOf file
     unfolding readConditions refusal.holds

@@ -3,16 +3,16 @@ use Prim.Native.Nat.{ℕ, _+_, _-_, _≤_}
 use native.Mathlib.Omega.{arith}
 use mathlib.Core.Path.{_≡_, sym, ap, _∙_}
 use mathlib.Core.List.{List, _∷_, map}
-use mathlib.Core.Bool.{Bool, true, false, _&&_}
+use mathlib.Core.Bool.{Bool, true, false, _&&_, _||_, not}
 use lib.ListN.{length, replicate, length-map}
-use lib.Dec.{leb}
+use lib.Dec.{eqb, leb}
 use lib.Seq.{sets}
 use borrow.Author.Tests.{leb-true}
 use Rattle.limits.specs.Limits.{mostLines, mostPoints, mostLinks}
 use Rattle.drawing_spec.specs.Drawing as drawn
-use Rattle.drawing_spec.specs.Drawing.{linePoints}
-use Rattle.drawing_spec.specs.Read.{Record, pointsOfLine, linkOf, bodies, total, kindsFit, lengthsFit, settingsFit, countsFit, linksFit, recordsOf, isCut, sketchOf, drawingOf}
-use Rattle.drawing_spec.proofs.Placed.{lines-are, links-are, settings-are, counts-placed, links-placed}
+use Rattle.drawing_spec.specs.Drawing.{linking, linePoints}
+use Rattle.drawing_spec.specs.Read.{Record, pointsOfLine, linkOf, bodies, total, kindsFit, lengthsFit, settingsFit, countsFit, ownLinksFit, linksFit, recordsOf, isCut, sketchOf, drawingOf}
+use Rattle.drawing_spec.proofs.Placed.{lines-are, links-are, settings-are, counts-placed, own-links-placed, links-placed}
 use Rattle.file_records.specs.Body.{settingsFrom, edgeFrom, recordRead}
 use Rattle.file_records.specs.declared.Settings.{Settings}
 use Rattle.file_records.specs.declared.MstEdge.{MstEdge}
@@ -48,11 +48,19 @@ module _ (rs : List Record) (t : Tally) (e : t ≡ tallied rs noTally) where
   pub counts-tell : (b v : Bool) → b ≡ (leb (t .lines) mostLines && leb (t .points) mostPoints && leb (t .links) mostLinks) → b ≡ v → countsFit (sketchOf rs) ≡ v
   counts-tell b v h i = sym (h ∙ counts-tally rs t e ∙ counts-placed rs) ∙ i
 
-pub settings-tell : (file : List ℕ) → isCut file ≡ false → kindsFit (recordsOf file) ≡ true → lengthsFit (recordsOf file) ≡ true
-    → (s : Settings) (b v : Bool) → s ≡ settingsIn (recordRead file 0 .body) → b ≡ settingsFit (settingsOf s) → b ≡ v → settingsFit (sketchOf (recordsOf file) .settings) ≡ v
-settings-tell file w k l s b v e h i = sym (h ∙ ap (λ (s : Settings). settingsFit (settingsOf s)) (e ∙ settings-read file w k l)) ∙ i
+module _ (file : List ℕ) (w : isCut file ≡ false) (k : kindsFit (recordsOf file) ≡ true) (l : lengthsFit (recordsOf file) ≡ true) (s : Settings) (e : s ≡ settingsIn (recordRead file 0 .body)) where
+  pub settings-tell : (b v : Bool) → b ≡ settingsFit (settingsOf s) → b ≡ v → settingsFit (sketchOf (recordsOf file) .settings) ≡ v
+  settings-tell b v h i = sym (h ∙ ap (λ (s : Settings). settingsFit (settingsOf s)) (e ∙ settings-read file w k l)) ∙ i
 
--- ---- the drawing of a file that checks 1 to 7 pass
+  pub own-links-tell : (t : Tally) → t ≡ tallied (recordsOf file) noTally → (b v : Bool) → b ≡ (not (linking (settingsOf s)) || eqb (t .links) 0) → b ≡ v → ownLinksFit (sketchOf (recordsOf file)) ≡ v
+  unfolding ownLinksFit drawingOf
+  own-links-tell t c b v h i =
+      let rs = recordsOf file in
+      let asked = ap (λ (s : Settings). not (linking (settingsOf s)) || eqb (t .links) 0) (e ∙ settings-read file w k l) in
+      let counted = ap (λ (n : ℕ). not (linking (sketchOf rs .settings)) || eqb n 0) (links-tally rs t c) in
+      sym (h ∙ asked ∙ counted ∙ own-links-placed rs) ∙ i
+
+-- ---- the drawing of a file that passes the checks before check 8
 
 pub few-of : (d : drawn.Drawing) → countsFit d ≡ true → (length (d .lines) ≤ mostLines) × (total (map (λ (l : List drawn.Point). length l) (d .lines)) ≤ mostPoints) × (length (d .links) ≤ mostLinks)
 unfolding countsFit

@@ -1,6 +1,7 @@
-// The reader of drawing files: for every slice of bytes the number of the first of conditions 1 to 8 that holds, or the drawing.
+// The reader of drawing files: for every slice of bytes the number of the first of conditions 1 to 8 and 15 that holds, or
+// the drawing.
 //
-// Check 1 is made here, checks 2 to 7 are in `file_checks`, and check 8 and the arrays in `file_drawing`. This crate has the
+// Check 1 is made here, checks 2 to 7 and 15 are in `file_checks`, and check 8 and the arrays in `file_drawing`. This crate has the
 // checks in their order and what the reader answers.
 ghost use mathlib.Core.Path.{_≡_};
 ghost use Rattle.drawing_spec.specs.Read.{recordsOf, drawingOf};
@@ -24,6 +25,7 @@ use limits::REFUSED_CUT;
 use limits::REFUSED_KINDS;
 use limits::REFUSED_LENGTHS;
 use limits::REFUSED_LINKS;
+use limits::REFUSED_OWN_LINKS;
 use limits::REFUSED_SETTINGS;
 
 // The reader's answer to a file: the number of the first condition that holds, or that none does.
@@ -59,16 +61,21 @@ fn first_refusal(file: &[u8]) -> u8
     if !long {
         return REFUSED_LENGTHS;
     }
-    let settings = settings::settings_fit(settings::settings_of(file, 0));
-    if !settings {
+    let settings = settings::settings_of(file, 0);
+    let in_range = settings::settings_fit(settings);
+    if !in_range {
         return REFUSED_SETTINGS;
     }
     let few = heads::counts_fit(t.lines, t.points, t.links);
     if !few {
         return REFUSED_COUNTS;
     }
-    let on = coordinates::coordinates_fit(file);
-    if !on {
+    let links_allowed = settings::own_links_fit(settings, t.links);
+    if !links_allowed {
+        return REFUSED_OWN_LINKS;
+    }
+    let on_grid = coordinates::coordinates_fit(file);
+    if !on_grid {
         return REFUSED_COORDINATES;
     }
     0

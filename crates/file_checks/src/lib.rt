@@ -1,4 +1,5 @@
-// Checks 2 to 7 of a drawing file: `heads` has checks 2, 3, 4 and 6, `settings` check 5 and `coordinates` check 7.
+// Checks 2 to 7 of a drawing file, and 15 among them: `heads` has checks 2, 3, 4 and 6, `settings` checks 5 and 15, and
+// `coordinates` check 7.
 // A crate of its own, so that an edit of a check leaves the arrays of the drawing proved.
 pub mod coordinates;
 pub mod heads;

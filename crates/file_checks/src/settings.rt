@@ -1,5 +1,8 @@
-// The settings of a file, and check 5.
+// The settings of a file, and checks 5 and 15.
 ghost use mathlib.Core.Path.{_≡_};
+ghost use mathlib.Core.Bool.{_||_, not};
+ghost use lib.Dec.{eqb};
+ghost use Rattle.drawing_spec.specs.Drawing.{linking};
 ghost use Rattle.drawing_spec.specs.Read.{settingsFit};
 ghost use Rattle.file_records.specs.Body.{recordRead};
 ghost use Rattle.file_checks.specs.Settings.{settingsIn, noSettings};
@@ -24,6 +27,16 @@ pub fn settings_fit(s: Settings) -> bool
         return false;
     }
     s.flags <= MOST_FLAGS
+}
+
+// Check 15, of the settings and of how many links the file has.
+pub fn own_links_fit(s: Settings, links: usize) -> bool
+    ensures { λ r. ⌜ r ≡ (not (linking (settingsOf s)) || eqb links 0) ⌝ }
+{
+    if s.flags / 4 % 2 == 1 {
+        return links == 0;
+    }
+    true
 }
 
 pub fn no_settings() -> Settings

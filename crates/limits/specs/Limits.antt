@@ -39,7 +39,7 @@ abbrev pub mostPairing : ℕ
 mostPairing = 1
 
 abbrev pub mostFlags : ℕ
-mostFlags = 3
+mostFlags = 7
 
 -- check 6
 abbrev pub mostLines : ℕ
@@ -125,3 +125,6 @@ refusedEdges = 13
 
 abbrev pub refusedOutput : ℕ
 refusedOutput = 14
+
+abbrev pub refusedOwnLinks : ℕ
+refusedOwnLinks = 15

@@ -51,4 +51,5 @@ refusalsAre = record {
   path = named.refusedPath;
   edges = named.refusedEdges;
   output = named.refusedOutput;
+  «own_links» = named.refusedOwnLinks;
 }

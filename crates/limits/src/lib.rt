@@ -29,7 +29,7 @@ pub const MOST_SIDE: u32 = 8192;
 
 pub const MOST_PAIRING: u8 = 1;
 
-pub const MOST_FLAGS: u8 = 3;
+pub const MOST_FLAGS: u8 = 7;
 
 // Check 6: the lines, their points in all and the links.
 pub const MOST_LINES: usize = 256;
@@ -88,6 +88,9 @@ pub const REFUSED_PATH: u8 = 12;
 pub const REFUSED_EDGES: u8 = 13;
 
 pub const REFUSED_OUTPUT: u8 = 14;
+
+// Links of its own in a file that asks the planner for links: among the checks it stands between 6 and 7.
+pub const REFUSED_OWN_LINKS: u8 = 15;
 
 pub struct Layout {
     pub settings: u16,
@@ -172,6 +175,7 @@ pub struct Refusals {
     pub path: u8,
     pub edges: u8,
     pub output: u8,
+    pub own_links: u8,
 }
 
 // And so are its numbers of refusals.
@@ -193,5 +197,6 @@ pub fn refusals_tied() -> Refusals
         path: REFUSED_PATH,
         edges: REFUSED_EDGES,
         output: REFUSED_OUTPUT,
+        own_links: REFUSED_OWN_LINKS,
     }
 }

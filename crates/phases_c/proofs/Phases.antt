@@ -21,12 +21,14 @@ use Rattle.file_records.specs.Meaning.{settingsOf}
 use Rattle.file_records.specs.declared.MstEdge.{MstEdge}
 use Rattle.file_drawing.specs.declared.Drawing.{Drawing}
 use Rattle.file_drawing.specs.Back.{linesBack, linksBack, drawingFrom}
+use Rattle.file_drawing.specs.Held.{drawingHeld}
+use Rattle.links_spec.specs.Made.{toPlan}
 use Rattle.file.specs.declared.Reading.{Reading}
 use Rattle.file.specs.declared.Verdict.the-variants.{Accepted, Refused}
 use Rattle.file.specs.Reading.{verdictFrom, readingOf}
-use Rattle.file.proofs.ReadingLaws.{accepted-drawing}
 use Rattle.repair_spec.specs.Distance.{zeroLength}
 use Rattle.planner_spec.specs.Plan.{drawingIn}
+use Rattle.planner.proofs.Drawn.{planned-in}
 use Rattle.phases.specs.declared.Phase.{Phase}
 use Rattle.phases.specs.Ends.{refusedWith, made, oddEnd, pairsEnd, repairEnd}
 use Rattle.phases_c.specs.Phases.{reachedPhase, graphPhase, drawingPhase, phaseOf}
@@ -141,14 +143,9 @@ module _ (file : List ℕ) (floats bytes last : ℕ) (r : Reading) (is : r ≡ r
       go refusal.accepted e = absurd (let z : _≡_ {A = ℕ} 0 1 = cc in omega arith)
 
   module _ (h : r .verdict ≡ Accepted) where
-    read-accepted : readingOf file .verdict ≡ Accepted
-    read-accepted = ap (λ (x : Reading). x .verdict) (sym is) ∙ h
-
-    pub drawing-follows : (p : Phase) → p ≡ drawingPhase (drawingFrom (r .drawing)) floats bytes last → p ≡ phaseOf file floats bytes last
-    unfolding drawingIn
-    drawing-follows p e =
-        e ∙ ap (λ (x : Reading). drawingPhase (drawingFrom (x .drawing)) floats bytes last) is
-        ∙ ap (λ (d : drawn.Drawing). drawingPhase d floats bytes last) (accepted-drawing file read-accepted)
+    pub drawing-follows : (d : Drawing) → d ≡ drawingHeld (toPlan (drawingFrom (r .drawing))) → (p : Phase) → p ≡ drawingPhase (drawingFrom d) floats bytes last → p ≡ phaseOf file floats bytes last
+    drawing-follows d planned p e =
+        e ∙ ap (λ (x : drawn.Drawing). drawingPhase x floats bytes last) (planned-in file r is h d planned)
         ∙ go (refusal.verdict (readConditions file)) (read-verdict ∙ h)
         ∙ file-by
       where

@@ -1,4 +1,4 @@
--- What the planner has made of a file when a call stops after a phase, by the phase's number, as in phases/specs/Ends: 0 the file is read, 1 the graph, 2 the odd nodes,
+-- What the planner has made of a file when a call stops after a phase, by the phase's number, as in phases/specs/Ends: 0 the file is read and its links are made, where flag 4 asks for them, 1 the graph, 2 the odd nodes,
 -- 3 the pairs, 4 a search for each pair, 5 repair; any other is the line.
 use mathlib.Core.List.{List}
 use mathlib.Core.Bool.{true, false}

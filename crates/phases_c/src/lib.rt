@@ -132,7 +132,7 @@ fn phase_of_drawing(drawing: Drawing, floats: &mut [f64], bytes: &mut [u8], last
     )
 }
 
-// Of a file: the first of conditions 1 to 8 that holds, or else what a phase made of its drawing.
+// Of a file: the first of conditions 1 to 8 and 15 that holds, or else what a phase made of its drawing.
 fn phase_of_bytes(file: &[u8], floats: &mut [f64], bytes: &mut [u8], last: u32) -> Phase
     ensures { λ r. ⌜ r ≡ phaseOf (now (file .entry)) (length (now (floats .entry))) (length (now (bytes .entry))) last ⌝ }
 {
@@ -141,8 +141,12 @@ fn phase_of_bytes(file: &[u8], floats: &mut [f64], bytes: &mut [u8], last: u32) 
     match verdict {
         Verdict::Refused(number) => phases::refused(number),
         Verdict::Accepted => {
-            let drawing = reading.drawing;
-            phase_of_drawing(drawing, floats, bytes, last)
+            let linking = links_made::asked(reading.drawing.settings);
+            if !linking {
+                return phase_of_drawing(reading.drawing, floats, bytes, last);
+            }
+            let linked = links_made::link_ends(reading.drawing);
+            phase_of_drawing(linked, floats, bytes, last)
         }
     }
 }

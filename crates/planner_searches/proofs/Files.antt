@@ -1,4 +1,4 @@
--- For every file that passes checks 1 to 7: its graph can be searched with an early exit, before and after each retrace, and where its drawing is in one piece (check 9)
+-- For every file that passes checks 1 to 7 and 15: its graph can be searched with an early exit, before and after each retrace, and where its drawing is in one piece (check 9)
 -- condition 12 never holds.
 use mathlib.Core.Path.{_≡_, subst}
 use mathlib.Core.List.{List}
@@ -8,7 +8,9 @@ use native.Mathlib.Omega.{arith}
 use lib.ListN.{length}
 use Rattle.limits.specs.Limits.{mostEdges, refusedPath, refusedEdges}
 use Rattle.drawing_spec.specs.Accepted.{Passed}
+use Rattle.drawing_spec.specs.Read.{recordsOf, drawingOf}
 use Rattle.drawing_spec.proofs.Accepted.{in-limits}
+use Rattle.links_spec.proofs.ToPlan.{plan-within}
 use Rattle.graph_spec.specs.Reach.{allReached}
 use Rattle.repair_spec.specs.Repair.{stopped}
 use Rattle.graph_spec.specs.Graph.{buildGraph}
@@ -22,7 +24,7 @@ module _ (file : List ℕ) (passes : Passed file) where
   pub graph-searchable : Searchable (length (buildGraph (drawingIn file) .nodes)) (buildGraph (drawingIn file) .edges)
   unfolding drawingIn
   graph-searchable =
-      let l = in-limits file passes in
+      let l = plan-within (drawingOf (recordsOf file)) (in-limits file passes) in
       drawn-searchable (drawingIn file) (l .lines-on) (l .links-on) (omega (arith, counted-few (drawingIn file) (l .counts) .nodes))
 
   -- where every node is reached, repair stops with 13 or not at all

@@ -98,7 +98,7 @@ module _ (most number : ℕ) (g : Graph) (s : Settings) (G : Searchable (searche
       let u = getD (oddListOf g) i 0 in
       subst (LeastFinite (g .edges) u v) (sym (row-known n (g .edges) (oddListOf g) i v h)) (least-finite n (g .edges) G C u (odd-at n (g .edges) i h) v hv)
 
--- For every file that passes checks 1 to 7 and 9
+-- For every file that passes checks 1 to 7, 15 and 9
 pub file-searches : (file : List ℕ) → Passed file → allReached (length (buildGraph (drawingIn file) .nodes)) (buildGraph (drawingIn file) .edges) ≡ true → Searches file
 unfolding repairOf
 file-searches file passes reached =

@@ -1,5 +1,6 @@
 -- Laws of the definitions in specs/. Proved has demand 3, Refuted what it shuts out, EulerLine that the line is Hierholzer's, FileDecides that nothing but the file decides, and
 -- Samples the starred drawings.
+pub mod AsIfHeld
 pub mod Counted
 pub mod Drawn
 pub mod EulerLine
@@ -7,6 +8,7 @@ pub mod Examples
 pub mod FileDecides
 pub mod LineEnds
 pub mod LineRecord
+pub mod MadeLinks
 pub mod Numbered
 pub mod Plan
 pub mod Proved

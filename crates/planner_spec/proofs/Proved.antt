@@ -12,7 +12,7 @@ use Rattle.lists.proofs.Members.{in-all, all-map}
 use Rattle.drawing_spec.specs.OnGrid.{OnGrid}
 use Rattle.drawing_spec.specs.Accepted.{InLimits}
 use Rattle.drawing_spec.specs.Refusal.{accepted, verdict}
-use Rattle.drawing_spec.specs.Read.{readConditions}
+use Rattle.drawing_spec.specs.Read.{recordsOf, drawingOf, readConditions}
 use Rattle.drawing_spec.proofs.Accepted.{accepted-passes, in-limits}
 use Rattle.graph_spec.specs.Pieces.{strokesOf}
 use Rattle.graph_spec.specs.Graph.{pointAt, buildGraph}
@@ -25,6 +25,7 @@ use Rattle.graph_counts.proofs.Nodes.{counted-few}
 use Rattle.repair_spec.specs.Repair.{Repair}
 use Rattle.repair_spec.proofs.Repaired.{Repaired, fixed}
 use Rattle.walk_spec.proofs.Orient.{orient-all}
+use Rattle.links_spec.proofs.ToPlan.{plan-within}
 use Rattle.planner_spec.specs.LineRecord.{inFront, lineRecord, Written}
 use Rattle.planner_spec.specs.Plan.{Lent, Planned, Outcome, drawingIn, repairOf, lineFor, planDrawing}
 use Rattle.planner_spec.specs.Words.{retracesIn, copiesBetween, copiesAt, odd, leftOdd}
@@ -130,7 +131,7 @@ drawing-demand3 d limits lent answer h = planned-demand3 d limits lent answer (d
 -- and of every file that is.
 pub file-limits : (file : List ℕ) → verdict (readConditions file) ≡ accepted → InLimits (drawingIn file)
 unfolding drawingIn
-file-limits file h = in-limits file (accepted-passes file h)
+file-limits file h = plan-within (drawingOf (recordsOf file)) (in-limits file (accepted-passes file h))
 
 pub demand3 : Statement
 demand3 file lent answer h =

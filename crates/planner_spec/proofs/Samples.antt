@@ -6,6 +6,9 @@ use lib.ListN.{length, replicate}
 use Rattle.grid.specs.Grid.{origin, gridExponent}
 use Rattle.drawing_spec.specs.Bytes.{bytes}
 use Rattle.drawing_spec.specs.Drawing.{Point}
+use Rattle.drawing_spec.specs.Refusal.{accepted, verdict}
+use Rattle.drawing_spec.specs.Read.{recordsOf, drawingOf, readConditions}
+use Rattle.links_spec.specs.Made.{held}
 use Rattle.planner_spec.specs.LineRecord.{pointBytes, lineRecord}
 use Rattle.planner_spec.specs.Plan.{refusal, planned, Outcome, plan}
 
@@ -121,3 +124,38 @@ example = refl
 example-short : plan exampleFile (record { floats = 0; bytes = 0; output = replicate 37 7 }) ≡ record { answer = refusal 14; output = replicate 37 7 }
 unfolding plan exampleFile
 example-short = refl
+
+-- ---- flag 4: the line and the dot without their link, which is made from the line's start, since both its ends are as far
+
+flaggedFile : List ℕ
+unfolding settings lineAndDot
+flaggedFile = settings 0 4 ++ lineAndDot
+
+heldFile : List ℕ
+unfolding settings lineAndDot link
+heldFile = settings 0 0 ++ lineAndDot ++ link (at 0 0) (at 4 4)
+
+linkTable : List Case
+unfolding drawn notDrawn settings line link lineAndDot flaggedFile heldFile
+linkTable =
+    drawn flaggedFile 0 0 2 2 (at 8 0 ∷ at 0 0 ∷ at 4 4 ∷ [])
+    ∷ drawn heldFile 0 0 2 2 (at 8 0 ∷ at 0 0 ∷ at 4 4 ∷ [])
+    ∷ drawn (settings 0 6 ++ lineAndDot) 0 0 2 2 (at 4 4 ∷ at 0 0 ∷ at 8 0 ∷ [])
+    ∷ drawn (settings 0 4) 0 0 0 0 []
+    ∷ drawn (settings 0 4 ++ line [] ++ line (at 2 3 ∷ [])) 0 0 0 0 (at 2 3 ∷ [])
+    ∷ notDrawn (settings 0 4 ++ lineAndDot ++ link (at 0 0) (at 4 4)) 0 15
+    ∷ notDrawn (settings 0 8 ++ lineAndDot) 0 5
+    ∷ []
+
+flagged : map given linkTable ≡ map (λ (c : Case). c .want) linkTable
+unfolding given linkTable
+flagged = refl
+
+-- the second file is taken, and holds what is planned for the first (proofs/AsIfHeld: `as-if-held`)
+held-taken : verdict (readConditions heldFile) ≡ accepted
+unfolding verdict readConditions heldFile
+held-taken = refl
+
+held-holds : drawingOf (recordsOf heldFile) ≡ held (drawingOf (recordsOf flaggedFile))
+unfolding drawingOf recordsOf heldFile flaggedFile held
+held-holds = refl

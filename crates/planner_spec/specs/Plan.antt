@@ -14,6 +14,7 @@ use Rattle.graph_spec.specs.Odd.{oddNodes, oddFrom}
 use Rattle.graph_spec.specs.Reach.{allReached}
 use Rattle.repair_spec.specs.Distance.{zeroLength}
 use Rattle.repair_spec.specs.Repair.{Repair, Repairing, stopped, repaired, fixParity, tooManyOdd, tableShort}
+use Rattle.links_spec.specs.Made.{toPlan}
 use Rattle.walk_spec.specs.Line.{lineOf}
 use Rattle.planner_spec.specs.LineRecord.{lineRecord, inFront}
 
@@ -97,11 +98,12 @@ unfoldable pub planDrawing : Drawing → Lent → Outcome
 unfolding buildGraph planGraph
 planDrawing d lent = planGraph (buildGraph d) (d .settings) lent
 
+-- the drawing that is planned for a file: what its records say, with links made for it where flag 4 asks for them
 unfoldable pub drawingIn : List ℕ → Drawing
-unfolding recordsOf drawingOf
-drawingIn file = drawingOf (recordsOf file)
+unfolding recordsOf drawingOf toPlan
+drawingIn file = toPlan (drawingOf (recordsOf file))
 
--- a file: the first of conditions 1 to 8, or else the plan of its drawing
+-- a file: the first of conditions 1 to 8 and 15, or else the plan of its drawing
 unfoldable pub plan : List ℕ → Lent → Outcome
 unfolding verdict readConditions drawingIn planDrawing
 plan file lent = elim (verdict (readConditions file)) [ refused n ↦ refuse n lent | accepted ↦ planDrawing (drawingIn file) lent ]

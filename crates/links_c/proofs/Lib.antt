@@ -1,0 +1,2 @@
+-- Laws of the links for other languages.
+pub mod MadeLinks

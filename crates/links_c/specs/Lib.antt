@@ -1,0 +1,2 @@
+-- The links of the drawing that is planned, for other languages.
+pub mod MadeLinks
