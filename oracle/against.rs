@@ -1,6 +1,7 @@
 //! The published planner and the proved one on the same drawings, in one process: whole answers, every byte of what
 //! was lent. The drawings come in batch form on standard input and are read one by one.
 
+pub use crate::handed::hex;
 use crate::port::{Lender, MOST_ENTRIES, MOST_FILE};
 use crate::{links, next_drawing, stand_in, Lent};
 use std::collections::BTreeMap;
@@ -19,11 +20,11 @@ pub enum Mode {
 }
 
 #[derive(Default)]
-struct Tally {
-    drawings: usize,
+pub struct Tally {
+    pub drawings: usize,
     calls: usize,
     answers: BTreeMap<u32, usize>,
-    differ: usize,
+    pub differ: usize,
     smallest: Option<(Vec<u8>, Lent)>,
 }
 
@@ -60,7 +61,7 @@ pub fn run(mode: Mode) -> bool {
 }
 
 impl Tally {
-    fn compare(&mut self, lender: &mut Lender, file: &[u8], lent: Lent) {
+    pub fn compare(&mut self, lender: &mut Lender, file: &[u8], lent: Lent) {
         self.drawings += 1;
         let wanted = stand_in::plan(file, lent);
         let lent = self.enough(file, &wanted, lent);
@@ -148,7 +149,7 @@ impl Tally {
         }
     }
 
-    fn print(&self) {
+    pub fn print(&self) {
         let name = |number: &u32| if *number == 0 { "ok".to_owned() } else { format!("refused {number}") };
         let answers: Vec<String> = self.answers.iter().map(|(number, count)| format!("{count} {}", name(number))).collect();
         println!("{} drawings, {} calls, {} differ; {}", self.drawings, self.calls, self.differ, answers.join(", "));
@@ -183,10 +184,6 @@ fn with_all_settings(file: &[u8]) -> Vec<Vec<u8>> {
         copy
     };
     (0..16).map(with).collect()
-}
-
-pub fn hex(bytes: &[u8]) -> String {
-    bytes.iter().map(|byte| format!("{byte:02x}")).collect()
 }
 
 /// xorshift64*, so that every run has the same copies.

@@ -1,6 +1,7 @@
 //! Times the published planner and the proved one on the same drawings, in one process.
 
-use crate::{counts, library_hypot, machine_root, next_drawing, port, Lent};
+use crate::handed::next_handed;
+use crate::{counts, library_hypot, machine_root, next_drawing, port, port_writer, reader, writer, Lent};
 use std::cell::RefCell;
 use std::hint::black_box;
 
@@ -63,6 +64,8 @@ fn times(rounds: usize, calls: &mut [Box<dyn FnMut() + '_>]) -> Vec<f64> {
 pub fn run(what: &str) {
     match what {
         "--bench" => whole(),
+        "--bench-saved" => saved(),
+        "--stack-saved" => stack_saved(),
         "--phases" => phases(),
         _ => stack(),
     }
@@ -80,6 +83,45 @@ fn whole() {
         ]);
         println!("{} | {}", counts(&file, lent), words(&found));
     }
+}
+
+/// One line for each drawing that is handed to both writers: the answer and the bytes of its file; then nanoseconds: the port's
+/// writer and writer.rs; then reader.rs and the port's reader, if it is linked in, on the file that a writer without checks makes
+/// of the drawing, if there is such a file.
+fn saved() {
+    while let Some((handed, room)) = next_handed() {
+        let (mut one, mut other) = (vec![1; room], vec![1; room]);
+        let answer = port_writer::saved(&handed, &mut one);
+        assert!(answer == writer::save(&handed, &mut other) && one == other, "the two writers differ");
+        let mut found = times(ROUNDS, &mut [
+            Box::new(|| {
+                black_box(port_writer::saved(black_box(&handed), &mut one));
+            }),
+            Box::new(|| {
+                black_box(writer::save(black_box(&handed), &mut other));
+            }),
+        ]);
+        let file = writer::unchecked(&handed);
+        if let Some(file) = &file {
+            found.extend(times(ROUNDS, &mut readers(file)));
+        }
+        println!("{} {} | {}", answer.refusal, file.map_or(0, |file| file.len()), words(&found));
+    }
+}
+
+#[cfg(reader)]
+unsafe extern "C" {
+    fn reader_refusal(file: *const u8, file_len: usize) -> u32;
+}
+
+fn readers<'a>(file: &'a [u8]) -> Vec<Box<dyn FnMut() + 'a>> {
+    let mut calls: Vec<Box<dyn FnMut() + 'a>> = vec![Box::new(move || drop(black_box(reader::read(black_box(file)))))];
+    // The pointer and the length are those of the slice.
+    #[cfg(reader)]
+    calls.push(Box::new(move || {
+        black_box(unsafe { reader_refusal(black_box(file).as_ptr(), file.len()) });
+    }));
+    calls
 }
 
 /// One line for each drawing: nanoseconds of each phase of the published planner, with the C library's `hypot`, then
@@ -204,17 +246,33 @@ const PAINTED: usize = 3 << 20;
 
 /// One line for each drawing: the bytes of stack that a call of the port reaches down to.
 fn stack() {
-    let work = || {
+    with_stack(|| {
         while let Some((lent, file)) = next_drawing() {
             let mut memory = Memory::new(lent);
-            println!("{} | {}", counts(&file, lent), deepest(&mut memory, &file));
+            println!("{} | {}", counts(&file, lent), deepest(|| drop(black_box(memory.plan(black_box(&file))))));
         }
-    };
+    });
+}
+
+/// The same for each drawing that is handed to the port's writer.
+fn stack_saved() {
+    with_stack(|| {
+        while let Some((handed, room)) = next_handed() {
+            let mut destination = vec![1; room];
+            let deepest = deepest(|| {
+                black_box(port_writer::saved(black_box(&handed), &mut destination));
+            });
+            println!("{deepest}");
+        }
+    });
+}
+
+fn with_stack(work: impl FnOnce() + Send + 'static) {
     std::thread::Builder::new().stack_size(8 << 20).spawn(work).expect("a thread").join().expect("its end");
 }
 
 #[inline(never)]
-fn deepest(memory: &mut Memory, file: &[u8]) -> usize {
+fn deepest(mut call: impl FnMut()) -> usize {
     let top: *mut u64;
     unsafe {
         std::arch::asm!("mov {}, rsp", out(reg) top);
@@ -223,7 +281,7 @@ fn deepest(memory: &mut Memory, file: &[u8]) -> usize {
         for i in 32..room {
             top.sub(i).write_volatile(PAINT);
         }
-        drop(black_box(memory.plan(black_box(file))));
+        call();
         (32..room).rev().find(|&i| top.sub(i).read_volatile() != PAINT).map_or(0, |i| 8 * i)
     }
 }

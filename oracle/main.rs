@@ -4,15 +4,21 @@
 
 mod departure;
 mod geo;
+mod handed;
 mod hypot;
 mod links;
 mod reader;
+mod writer;
 #[cfg(planner)]
 mod against;
 #[cfg(planner)]
 mod bench;
 #[cfg(planner)]
 mod port;
+#[cfg(planner)]
+mod port_writer;
+#[cfg(planner)]
+mod saved;
 #[cfg(made)]
 mod port_links;
 
@@ -151,10 +157,15 @@ fn batched(file: &[u8], lent: Lent) -> Vec<u8> {
 const USAGE: &str = "usage: oracle [--f64 N] [--bytes N] [--output N] [--counts | --inside]   < one drawing
        oracle --links | --linked                                          < one drawing
        oracle --batch [--line | --counts | --inside | --links | --linked] < drawings in batch form
+       oracle --batch --read                                              < drawings in batch form
+       oracle --saved                                                     < drawings handed over, in their batch form
 with a planner linked in, for drawings in batch form:
        oracle --against | --against-all-settings | --against-sizes | --against-linked
        oracle --against-damaged N | --against-changed N
+       oracle --against-rewritten
        oracle --bench | --phases | --stack
+with a planner linked in, for drawings handed over, in their batch form:
+       oracle --against-saved | --port-saved | --bench-saved | --stack-saved
 with the port's `made_link` linked in (oracle/build --made):
        oracle [--batch] --port-links                                      < as for --links";
 
@@ -167,10 +178,17 @@ fn with_planner(word: &str, number: &mut dyn FnMut() -> usize) -> bool {
         "--against-all-settings" => against::run(Mode::AsLent { all_settings: true }),
         "--against-sizes" => against::run(Mode::Sizes),
         "--against-linked" => against::run(Mode::Linked),
+        "--against-rewritten" => saved::run_rewritten(),
+        "--against-saved" => saved::run_handed(),
         "--against-damaged" => against::run(Mode::Damaged(number())),
         "--against-changed" => against::run(Mode::Changed(number())),
-        "--bench" | "--phases" | "--stack" => {
+        "--bench" | "--bench-saved" | "--phases" | "--stack" | "--stack-saved" => {
             bench::run(word);
+            true
+        }
+        "--port-saved" => {
+            let saver = port_writer::Saver::new();
+            handed::print_rows(|drawing, destination| saver.save(drawing, destination, true));
             true
         }
         _ => return false,
@@ -190,6 +208,7 @@ enum Shown {
     AnswerInOneLine,
     Counts,
     Inside,
+    Read,
     Links,
     #[cfg(made)]
     PortLinks,
@@ -203,6 +222,7 @@ fn shown(what: Shown, file: &[u8], lent: Lent, is_batch: bool) -> Vec<u8> {
         Shown::AnswerInOneLine => (answer(file, lent).join(" ") + "\n").into_bytes(),
         Shown::Counts => (counts(file, lent) + "\n").into_bytes(),
         Shown::Inside => (inside(file, lent) + "\n").into_bytes(),
+        Shown::Read => format!("{}\n", reader::read(file).err().unwrap_or(0)).into_bytes(),
         Shown::Links => rows(made_links(file)).into_bytes(),
         #[cfg(made)]
         Shown::PortLinks => rows(port_links::made_links(file)).into_bytes(),
@@ -225,10 +245,12 @@ fn main() {
             "--line" => what = Shown::AnswerInOneLine,
             "--counts" => what = Shown::Counts,
             "--inside" => what = Shown::Inside,
+            "--read" => what = Shown::Read,
             "--links" => what = Shown::Links,
             #[cfg(made)]
             "--port-links" => what = Shown::PortLinks,
             "--linked" => what = Shown::Linked,
+            "--saved" => return handed::print_rows(writer::save),
             other if with_planner(other, &mut number) => return,
             _ => panic!("{USAGE}"),
         }

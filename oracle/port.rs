@@ -39,48 +39,52 @@ pub fn planned(file: &[u8], floats: &mut [f64], bytes: &mut [u8], output: &mut [
     }
 }
 
-const PAGE: usize = 4096;
+pub const PAGE: usize = 4096;
 const READ_WRITE: i32 = 3;
 const PRIVATE_ANONYMOUS: i32 = 0x22;
 
 /// Room for a slice between two pages that can't be touched.
-struct Guarded {
+pub struct Guarded {
     start: *mut u8,
     size: usize,
 }
 
 impl Guarded {
-    fn new(most: usize) -> Self {
+    pub fn new(most: usize) -> Self {
         // A page more, so that bytes before a slice at the upper end can be looked at.
         let size = most.next_multiple_of(PAGE) + PAGE;
         unsafe {
             let all = mmap(std::ptr::null_mut(), size + 2 * PAGE, READ_WRITE, PRIVATE_ANONYMOUS, -1, 0);
             assert!(all as isize != -1, "mmap");
             assert!(mprotect(all, PAGE, 0) == 0 && mprotect(all.add(PAGE + size), PAGE, 0) == 0, "mprotect");
+            // A fault in a guard page is SIGSEGV or SIGBUS.
+            signal(11, touched);
+            signal(7, touched);
             Guarded { start: all.add(PAGE), size }
         }
     }
 
     /// A slice of this many bytes that touches the upper page, or the lower one.
-    fn place(&self, length: usize, upper: bool) -> *mut u8 {
+    pub fn place(&self, length: usize, upper: bool) -> *mut u8 {
         assert!(length + PAGE <= self.size);
         unsafe { self.start.add(if upper { self.size - length } else { 0 }) }
     }
 
     /// The bytes of the room beside the slice, up to a page of them.
-    fn beside(&self, length: usize, upper: bool) -> &'static mut [u8] {
+    pub fn beside(&self, length: usize, upper: bool) -> &'static mut [u8] {
         let at = if upper { self.size - length - PAGE } else { length };
         unsafe { std::slice::from_raw_parts_mut(self.start.add(at), PAGE) }
     }
 }
 
-// The file of the call that runs, for the message when it touches what it was not lent.
+// The file of the call that runs, or the drawing in batch form that is handed to a writer, for the message when it touches what
+// it was not lent.
 static FILE: AtomicPtr<u8> = AtomicPtr::new(std::ptr::null_mut());
 static FILE_LEN: AtomicUsize = AtomicUsize::new(0);
 
 extern "C" fn touched(_: i32) {
     unsafe {
-        let text = b"\nmemory was touched that was not lent; the file:\n";
+        let text = b"\nmemory was touched that was not lent; the file, or the drawing handed over:\n";
         write(2, text.as_ptr(), text.len());
         let digits = b"0123456789abcdef";
         for i in 0..FILE_LEN.load(Ordering::Relaxed) {
@@ -90,6 +94,26 @@ extern "C" fn touched(_: i32) {
         write(2, b"\n".as_ptr(), 1);
         _exit(3);
     }
+}
+
+/// Has a touch of memory that was not lent print these bytes, which are left where they are until the call is over.
+pub fn watch(bytes: *const u8, length: usize) {
+    FILE.store(bytes.cast_mut(), Ordering::Relaxed);
+    FILE_LEN.store(length, Ordering::Relaxed);
+}
+
+/// What lent memory is full of before a call: so many u64, zeros of both signs, infinities and NaNs among them.
+pub fn rubbish(entries: usize) -> Vec<u8> {
+    let mut state = 0x9E37_79B9_7F4A_7C15u64;
+    (0..entries)
+        .flat_map(|i| {
+            state ^= state >> 12;
+            state ^= state << 25;
+            state ^= state >> 27;
+            let odd_one = [0, 1 << 63, 0x7ff0 << 48, 0xfff0 << 48, 0x7ff8 << 48, 1, u64::MAX][i % 7];
+            (if i % 5 == 0 { odd_one } else { state.wrapping_mul(0x2545_F491_4F6C_DD1D) }).to_le_bytes()
+        })
+        .collect()
 }
 
 /// The lent memory of many calls.
@@ -108,29 +132,13 @@ const MOST_OUTPUT: usize = 6 + 16 * 4100;
 
 impl Lender {
     pub fn new() -> Self {
-        unsafe {
-            // A fault in a guard page is SIGSEGV or SIGBUS.
-            signal(11, touched);
-            signal(7, touched);
-        }
-        // As long as the largest table, and some to start at different places.
-        let mut state = 0x9E37_79B9_7F4A_7C15u64;
-        let rubbish = (0..MOST_ENTRIES + 1024)
-            .flat_map(|i| {
-                state ^= state >> 12;
-                state ^= state << 25;
-                state ^= state >> 27;
-                // Zeros of both signs, infinities and NaNs among them.
-                let odd_one = [0, 1 << 63, 0x7ff0 << 48, 0xfff0 << 48, 0x7ff8 << 48, 1, u64::MAX][i % 7];
-                (if i % 5 == 0 { odd_one } else { state.wrapping_mul(0x2545_F491_4F6C_DD1D) }).to_le_bytes()
-            })
-            .collect();
         Lender {
             file: Guarded::new(MOST_FILE),
             floats: Guarded::new(8 * MOST_ENTRIES),
             bytes: Guarded::new(MOST_ENTRIES),
             output: Guarded::new(MOST_OUTPUT),
-            rubbish,
+            // As long as the largest table, and some to start at different places.
+            rubbish: rubbish(MOST_ENTRIES + 1024),
             calls: 0,
         }
     }
@@ -150,8 +158,7 @@ impl Lender {
             rooms[i].beside(lengths[i], upper).copy_from_slice(&before[..PAGE]);
             unsafe { std::ptr::copy_nonoverlapping(if i == 0 { file } else { before }.as_ptr(), places[i], lengths[i]) }
         }
-        FILE.store(places[0], Ordering::Relaxed);
-        FILE_LEN.store(file.len(), Ordering::Relaxed);
+        watch(places[0], file.len());
         let [file_at, floats_at, bytes_at, output_at] = places;
         let outcome = unsafe {
             plan(

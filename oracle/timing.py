@@ -1,13 +1,14 @@
 #!/usr/bin/env python3
 """Times the planner that is linked into the oracle beside the published one, as tables for docs/PERFORMANCE.md.
 
-usage: oracle/timing.py ORACLE TABLE ...       TABLE is goals, slow, growth, small, phases, walk, found, links or stack
+usage: oracle/timing.py ORACLE TABLE ...       TABLE is goals, slow, growth, small, phases, walk, found, links, stack or saved
        oracle/timing.py --programs PLAN RUST   the programs as a person runs them
        oracle/timing.py --write FOLDER         the drawings of all tables as files, for other planners
 
 ORACLE was built with --planner and --petgraph (and --phases, for the port's columns of phases and walk). Both planners
 run in one process on the same drawings; a time is the least of nine rounds in which they take turns, as processor time
 of a call. The port also writes the record of the line, which the published functions leave to their caller.
+`saved` times the writer: beside writer.rs, and beside the port's reader on the same file if ORACLE was built with --reader.
 
 PLAN is target/bin/plan, RUST an oracle built with --petgraph alone: each reads a drawing on standard input and prints
 its answer, here to /dev/null. A time is that of a whole run, from the start of the process to its end: the least of fifteen
@@ -24,6 +25,7 @@ import time
 
 import drawing as d
 import generate as g
+import handed as h
 import slow
 from samples import CROSS
 
@@ -153,6 +155,45 @@ def links():
     yield "two dots", d.drawing([[(0, 0)], [(3, 4)]], flags=g.LINK), {}
 
 
+def saved():
+    """Drawings handed to the writer, with the bytes of the destination: name, drawing, bytes."""
+    def net(lines, points, links):
+        drawn = h.Plain([[(g.bits(3.0 * i - 100.5), g.bits(k - 2.25)) for k in range(points)] for i in range(lines)], width=800, height=600)
+        last = max(0, points - 2)
+        ends = lambda i: [g.bits(c) for c in (i - 99.0, 0.5, 2.0, -7.0)]
+        drawn.links = [(i % lines, last // 2, (i + 1) % lines, last, *ends(i)) for i in range(links)]
+        return drawn
+    most = net(256, 4, 255)
+    assert most.length() == h.MOST_FILE
+    for name, drawn in [("256 lines, 1,024 points, 255 links", most), ("one line of 1,024 points", net(1, 1024, 0)),
+                        ("256 dots, 255 links", net(256, 1, 255)), ("256 empty lines", net(256, 0, 0)),
+                        ("64 lines, 512 points, 63 links", net(64, 8, 63)), ("three lines, 9 points, 2 links", net(3, 3, 2)),
+                        ("settings alone", net(0, 0, 0))]:
+        yield name, drawn.handed(), drawn.length()
+    whole, room = most.handed(), h.MOST_FILE
+    yield "the first, ends of one link missing: 4", whole._replace(ends=whole.ends[:-4]), room
+    yield "the first, flags 8: 5", whole._replace(flags=8), room
+    yield "the first, one link more: 6", whole._replace(segments=whole.segments + [0] * 4, ends=whole.ends + [0] * 4), room
+    yield "the first, flags 4: 15", whole._replace(flags=4), room
+    yield "the first, its last coordinate off the grid: 7", whole._replace(ends=whole.ends[:-1] + [1]), room
+    yield "the first, its last segment missing: 8", whole._replace(segments=whole.segments[:-1] + [3]), room
+    yield "the first, a byte short: 16", whole, room - 1
+
+
+def print_saved(oracle):
+    rows = list(saved())
+    batch = b"".join(h.batched(*row[1:]) for row in rows)
+    printed = subprocess.run([oracle, "--bench-saved"], input=batch, stdout=subprocess.PIPE, check=True).stdout.decode().splitlines()
+    head("drawing (µs)", "answer, bytes of the file", "port's writer", "writer.rs", "port by it", "port's reader, same file", "writer by reader",
+         "reader.rs")
+    for (name, *_), row in zip(rows, printed, strict=True):
+        (refusal, length), numbers = row.split("|")[0].split(), [float(n) for n in row.split("|")[1].split()]
+        port, rust, rust_reader, port_reader = numbers + [None] * (4 - len(numbers))
+        answer = (f"refused {refusal}" if refusal != "0" else "saved") + (f", {int(length):,}" if length != "0" else "")
+        print("|", " | ".join([name, answer, micro(port), micro(rust), ratio(port, rust), micro(port_reader) if port_reader else "-",
+                               ratio(port, port_reader) if port_reader else "-", micro(rust_reader) if rust_reader else "-"]), "|")
+
+
 def run(oracle, mode, rows):
     """The oracle's line for each row: its sizes, then groups of numbers."""
     batch = b"".join(d.batched(file, **lent) for _, file, lent, *_ in rows)
@@ -262,6 +303,12 @@ def print_stack(oracle, rows):
     found = run(oracle, "--stack", rows)
     deepest = max(zip((row[1][0] for row in found), (name for name, *_ in rows)))
     print(f"Deepest stack of a call, over {len(rows)} drawings: {deepest[0]:,.0f} bytes ({deepest[1]}).")
+    handed = list(saved())
+    batch = b"".join(h.batched(*row[1:]) for row in handed)
+    printed = subprocess.run([oracle, "--stack-saved"], input=batch, stdout=subprocess.PIPE, check=True).stdout.decode().split()
+    deepest = max(zip(map(int, printed), (name for name, *_ in handed), strict=True))
+    # The 256 bytes next to the caller's are not looked at.
+    print(f"Of the writer, over {len(handed)} drawings: " + (f"{deepest[0]:,} bytes ({deepest[1]})." if deepest[0] else "at most 256 bytes."))
 
 
 def run_often(program, path, count):
@@ -311,6 +358,8 @@ def main():
     for name in wanted:
         if name == "stack":
             print_stack(oracle, [row for rows in TABLES.values() for row in rows()])
+        elif name == "saved":
+            print_saved(oracle)
         elif name == "links":
             print_links(oracle, list(links()))
         elif name in ("phases", "walk"):

@@ -1,7 +1,8 @@
 #!/usr/bin/env python3
-"""Has the checker compute the definition of the whole planner on drawings whose answers are known.
+"""Has the checker compute the definition of the whole planner, or of the writer, on drawings whose answers are known.
 
 usage: tools/definitions.py ANSWERS OUT [--each N] [--most BYTES]
+       tools/definitions.py --saved LIST OUT [--each N]
 
 ANSWERS is a list of drawings and answers in the format of oracle/answers.txt. OUT is a folder outside the
 repository, for a scratch repository of the definitions and one crate more: `rt check` there proves, a theorem for each
@@ -10,6 +11,10 @@ with every byte of the output. Some cases take more steps than the checker allow
 named, and left to the program that replays the list with the planner's code:
 - files of more than BYTES bytes that pass checks 1 to 8 and 15,
 - Optimal with 10 odd nodes or more, since the definition tries every pairing.
+
+With --saved, LIST is one in the format of oracle/saved.txt, and the theorems say that `saveGiven` gives the answer, and the
+destination afterwards with every byte, for just what is handed over. Left to the replay are drawings of which the list has only
+a digest of the file, and those with more than 2,000 numbers.
 """
 import argparse
 import collections
@@ -21,11 +26,10 @@ import sys
 
 sys.path.insert(0, str(pathlib.Path(__file__).resolve().parent.parent / "oracle"))
 import answers
+import saved
 from cardermoss import refusals
 
-# The crate that holds the definition `plan`.
-DEFINITIONS = "planner_spec"
-# What every byte of the output is before the call.
+# What every byte of the output, or of the destination, is before the call.
 BEFORE = 7
 
 
@@ -79,14 +83,14 @@ def expected(case):
     )
 
 
-def scratch(out):
-    """A repository with the planner's definitions and what they use, and an empty crate `computed` over them."""
+def scratch(out, definitions):
+    """A repository with a crate of definitions and what it uses, and an empty crate `computed` over it."""
     uses = {}
     for line in open("crates.txt", encoding="utf-8"):
         name, _, deps = line.split("#")[0].partition(":")
         if name.strip():
             uses[name.strip()] = deps.split()
-    wanted, todo = set(), [DEFINITIONS]
+    wanted, todo = set(), [definitions]
     while todo:
         name = todo.pop()
         if name in uses and name not in wanted:
@@ -103,51 +107,99 @@ def scratch(out):
     with open(os.path.join(out, "crates.txt"), "w", encoding="utf-8") as f:
         for name in sorted(wanted):
             f.write(f"{name}: {' '.join(uses[name])}\n")
-        f.write(f"computed: {DEFINITIONS}\n")
+        f.write(f"computed: {definitions}\n")
     return crate
+
+
+def planned(case):
+    """The theorem of a drawing that is planned: the call, its answer, and what is opened to compute it."""
+    floats, tables, output = case.lent
+    lent = f"record {{ floats = {floats}; bytes = {tables}; output = replicate {output} {BEFORE} }}"
+    return f"plan ({numbers(case.file)}) ({lent})", expected(case), "plan"
+
+
+def is_saved(case):
+    """The theorem of a drawing that is saved, likewise."""
+    given = case.handed
+    settings = f"record {{ width = {given.width}; height = {given.height}; pairing = {given.pairing}; flags = {given.flags} }}"
+    lists = " ".join(f"({numbers(some)})" for some in (given.sizes, given.coordinates, given.segments, given.ends))
+    if case.refusal:
+        after = f"record {{ answer = refusal {case.refusal}; destination = replicate {case.destination} {BEFORE} }}"
+    else:
+        later = f"replicate {case.destination - case.bytes} {BEFORE}"
+        after = f"record {{ answer = written {case.bytes}; destination = {numbers(case.file, later)} }}"
+    return f"saveGiven (given ({settings}) {lists}) (replicate {case.destination} {BEFORE})", after, "saveGiven"
+
+
+def too_much(case):
+    """Why the checker doesn't compute this drawing that is saved, or nothing."""
+    if not case.refusal and case.file is None:
+        return "files of which the list has a digest"
+    if sum(map(len, (case.handed.sizes, case.handed.coordinates, case.handed.segments, case.handed.ends))) > 2000:
+        return "more than 2,000 numbers"
+    return None
+
+
+def write(crate, chosen, each, head, theorem):
+    """Theorems for these cases, `each` to a file."""
+    mods = []
+    for k in range(0, len(chosen), each):
+        name = f"Batch{k // each}"
+        mods.append(name)
+        with open(os.path.join(crate, "specs", name + ".antt"), "w", encoding="utf-8") as f:
+            f.write(head)
+            for i, case in enumerate(chosen[k : k + each]):
+                call, after, opened = theorem(case)
+                f.write(f"-- {case.name}\nagrees{i} : {call} ≡ {after}\nunfolding {opened}\nagrees{i} = refl\n\n")
+    with open(os.path.join(crate, "specs", "Lib.antt"), "w", encoding="utf-8") as f:
+        f.write("".join(f"pub mod {m}\n" for m in mods))
+    return mods
+
+
+def answer_of(case):
+    if isinstance(case, saved.Case):
+        return f"refused {case.refusal}" if case.refusal else "ok"
+    return "ok" if len(case.answer[0]) > 10 else case.answer[0]
 
 
 def main():
     ap = argparse.ArgumentParser()
+    ap.add_argument("--saved", action="store_true")
     ap.add_argument("answers")
     ap.add_argument("out")
     ap.add_argument("--each", type=int, default=8)
     ap.add_argument("--most", type=int, default=1700)
     a = ap.parse_args()
-    cases = answers.cases(a.answers)
+    cases = saved.cases(a.answers) if a.saved else answers.cases(a.answers)
     left = collections.defaultdict(list)
     for case in cases:
-        left[too_long(case, a.most)].append(case)
+        left[too_much(case) if a.saved else too_long(case, a.most)].append(case)
     chosen = left.pop(None, [])
     if not chosen:
         sys.exit("no case is left to compute")
-    crate = scratch(a.out)
-    mods = []
-    for k in range(0, len(chosen), a.each):
-        name = f"Batch{k // a.each}"
-        mods.append(name)
-        with open(os.path.join(crate, "specs", name + ".antt"), "w", encoding="utf-8") as f:
-            f.write(HEAD)
-            for i, case in enumerate(chosen[k : k + a.each]):
-                floats, tables, output = case.lent
-                f.write(f"-- {case.name}\n")
-                f.write(f"agrees{i} : plan ({numbers(case.file)})")
-                f.write(f" (record {{ floats = {floats}; bytes = {tables}; output = replicate {output} {BEFORE} }}) ≡ {expected(case)}\n")
-                f.write(f"unfolding plan\nagrees{i} = refl\n\n")
-    with open(os.path.join(crate, "specs", "Lib.antt"), "w", encoding="utf-8") as f:
-        f.write("".join(f"pub mod {m}\n" for m in mods))
+    crate = scratch(a.out, "writer_spec" if a.saved else "planner_spec")
+    mods = write(crate, chosen, a.each, HEAD_SAVED if a.saved else HEAD, is_saved if a.saved else planned)
     print(f"{len(cases)} drawings, {len(chosen)} to compute in {len(mods)} files")
     for why, group in left.items():
-        what = collections.Counter("ok" if len(case.answer[0]) > 10 else case.answer[0] for case in group)
+        what = collections.Counter(answer_of(case) for case in group)
         print(f"{len(group)} left to the replay, {why} ({', '.join(f'{n} {w}' for w, n in sorted(what.items()))}):")
         print("".join(f"    {case.name}\n" for case in group), end="")
 
 
-HEAD = f"""use Prim.Native.Nat.{{ℕ}}
-use mathlib.Core.Path.{{_≡_, refl}}
-use mathlib.Core.List.{{List, [], _∷_}}
-use lib.ListN.{{replicate}}
-use Rattle.{DEFINITIONS}.specs.Plan.{{Lent, Planned, Answer, refusal, planned, Outcome, plan}}
+HEAD = """use Prim.Native.Nat.{ℕ}
+use mathlib.Core.Path.{_≡_, refl}
+use mathlib.Core.List.{List, [], _∷_}
+use lib.ListN.{replicate}
+use Rattle.planner_spec.specs.Plan.{Lent, Planned, Answer, refusal, planned, Outcome, plan}
+
+"""
+
+HEAD_SAVED = """use Prim.Native.Nat.{ℕ}
+use mathlib.Core.Path.{_≡_, refl}
+use mathlib.Core.List.{List, [], _∷_}
+use lib.ListN.{replicate}
+use Rattle.writer_spec.specs.Save.{Answer, refusal, written, Saved}
+use Rattle.writer_spec.specs.Given.{given, saveGiven}
 
 """
 

@@ -1,9 +1,11 @@
-"""The program `plan`: where it is, and its answer as values."""
+"""The programs `plan` and `save`: where they are, and their answers as values."""
 import collections
 import os
+import re
 import struct
 import subprocess
 
+from . import refusals
 from .drawing_text import Text
 
 ROOT = os.path.dirname(os.path.dirname(os.path.dirname(os.path.abspath(__file__))))
@@ -12,16 +14,16 @@ ROOT = os.path.dirname(os.path.dirname(os.path.dirname(os.path.abspath(__file__)
 Answer = collections.namedtuple("Answer", "refusal retrace before after points")
 
 
-def program(given=None):
-    """The path of `plan`: what was given, or PLAN in the environment, or where `rt check plan` puts it."""
-    return given or os.environ.get("PLAN") or os.path.join(ROOT, "target", "bin", "plan")
+def program(given=None, name="plan"):
+    """The path of `plan`: what was given, or PLAN in the environment, or where `rt check plan` puts it. So for `save`."""
+    return given or os.environ.get(name.upper()) or os.path.join(ROOT, "target", "bin", name)
 
 
 def parsed(text):
     """What `plan` prints, as values."""
     rows = text.splitlines()
     head = rows[0].split(" ")
-    if head[0] == "refused":
+    if head[0] == "refused" and int(head[1]) in refusals.CONDITIONS:
         return Answer(int(head[1]), 0.0, 0, 0, [])
     points = [tuple(map(int, row.split(" "))) for row in rows[1:]]
     if head[0] != "ok" or len(points) != int(head[4]):
@@ -34,11 +36,23 @@ class Wrong(Exception):
 
 
 def printed(file, path):
-    """What the program at this path prints for a drawing file."""
+    """What the program `plan` at this path prints for a drawing file."""
     if not os.access(path, os.X_OK):
         raise Wrong(f"{path} is not built: `rt check plan` builds it")
     run = subprocess.run([path], input=file, stdout=subprocess.PIPE, check=True)
     return run.stdout.decode("ascii")
+
+
+def saved(file, path):
+    """What the program `save` at this path makes of a drawing file: the number that it is refused with, or 0, and the file saved."""
+    if not os.access(path, os.X_OK):
+        raise Wrong(f"{path} is not built: `rt check save` builds it")
+    run = subprocess.run([path], input=file, stdout=subprocess.PIPE, stderr=subprocess.PIPE, check=True)
+    refused = re.fullmatch(rb"refused ([1-9][0-9]?)\n", run.stderr)
+    number = int(refused[1]) if refused else 0
+    if bool(run.stdout) == bool(refused) or (run.stderr and not refused) or number not in {0, *refusals.CHECKS}:
+        raise ValueError("this is not what `save` prints")
+    return number, run.stdout
 
 
 def loaded(path):

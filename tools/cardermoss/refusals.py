@@ -1,6 +1,7 @@
 """Why a drawing is refused, in words: conditions 1 to 11 and 15 of docs/DRAWING-FILE.md, from the file alone.
 
-12 to 14 depend on the planner's own work: for these the planner is asked, and `by_the_planner` has the words.
+12 to 14 depend on the planner's own work: for these the planner is asked, and `by_the_planner` has the words. 16 is the
+writer's alone, and no file is refused with it.
 """
 import collections
 import math
@@ -62,6 +63,16 @@ CONDITIONS = {
          "fewer points."),
     14: ("the output is too small for the line",
          "It needs 6 bytes and 16 for each point of the line; 64,022 are always enough."),
+}
+
+# What the writer says of a drawing that is to be saved, in its order, and what two of these numbers say there alone.
+BY_THE_WRITER = [4, 5, 6, 15, 7, 8, 16]
+MOST_FILE = 29666  # bytes of the largest file that it writes
+OF_THE_WRITER = {
+    4: ("the lists that the writer was handed do not fit one another",
+        "The program that saves must hand over two coordinates for each point, and four numbers and four coordinates for each link."),
+    16: ("the destination is too short for the file",
+         f"The program that saves must lend more bytes: {MOST_FILE:,} are always enough. A plan never gives this number."),
 }
 
 
@@ -334,6 +345,16 @@ def foot_on(point, segment):
 def odd_points(made):
     some = ", ".join(point_text(pixels(p)) for p in made.odd[:4])
     yield Finding(f"an odd number of strokes ends at {len(made.odd)} points, {some} among them", None, [pixels(p) for p in made.odd])
+
+
+def of_number(number):
+    """What a number says, as rows of text: of a file, and where the writer means something else by it, of saving. None: there is
+    no such number."""
+    rows = told(named(number)) if number in CONDITIONS else []
+    if number in OF_THE_WRITER:
+        condition, remedy = OF_THE_WRITER[number]
+        rows += [f"refused {number}, of a drawing that was to be saved: {condition}", "What to do: " + remedy]
+    return rows or None
 
 
 def told(refusal):

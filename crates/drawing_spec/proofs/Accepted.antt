@@ -9,7 +9,7 @@ use lib.Dec.{eqb}
 use borrow.Author.Tests.{ltb-false, leb-true, eqb-true, not-false}
 use Rattle.limits.specs.Limits.{mostBytes, mostLines, mostPoints, mostLinks}
 use Rattle.limits.specs.Limits.{refusedBytes, refusedCut, refusedKinds, refusedLengths, refusedSettings, refusedCounts, refusedOwnLinks, refusedCoordinates, refusedLinks}
-use Rattle.drawing_spec.specs.Drawing.{DrawingOf, LinkOf, Drawing, linking}
+use Rattle.drawing_spec.specs.Drawing.{DrawingOf, LinkOf, linking}
 use Rattle.lists.specs.Members.{All}
 use Rattle.drawing_spec.proofs.Same.{both}
 use Rattle.drawing_spec.specs.Refusal.{accepted, verdict, until, holds}
@@ -48,7 +48,7 @@ accepted-links file e = links-placed (recordsOf file) ∙ not-false (linksFit (s
 
 -- ---- the drawing keeps check 6, and its points are on the grid
 
-pub counts-fit : (d : Drawing) → countsFit d ≡ true → Counts d
+pub counts-fit : {C : Type 0} (d : DrawingOf C) → countsFit d ≡ true → Counts d
 unfolding countsFit
 counts-fit d e =
     let a = both _ _ e in

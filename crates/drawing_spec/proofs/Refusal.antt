@@ -2,8 +2,10 @@
 use mathlib.Core.Path.{_≡_, refl, sym, ap, _∙_}
 use mathlib.Core.List.{List, [], _∷_, _++_}
 use mathlib.Core.Bool.{Bool, true, false, true≢false}
-use Prim.Native.Nat.{ℕ}
+use mathlib.Core.Logic.{inl, inr}
+use Prim.Native.Nat.{ℕ, _<_}
 use native.Mathlib.Omega.{arith}
+use native.Mathlib.Nat.{eq-zero-or-pos}
 use lib.Dec.{eqb, ltb}
 use borrow.Author.Tests.{eqb-true, ltb-true}
 use Rattle.drawing_spec.specs.Refusal.{Condition, condition, numberOf, Verdict, refused, accepted, refusalOf, verdict, until, holds}
@@ -57,6 +59,28 @@ first-holds n (condition k t ∷ cs) e h = go (first-holds n cs) (eqb k n) refl 
     go later false q true e h = absurd (true≢false (cc))
     go later false q false e h = later e h
 
+-- ---- conditions behind others
+
+pub behind-accepted : (cs ds : List Condition) → verdict cs ≡ accepted → verdict (cs ++ ds) ≡ verdict ds
+unfolding verdict
+behind-accepted [] ds e = refl
+behind-accepted (condition n true ∷ cs) ds e = absurd (true≢false (cc))
+behind-accepted (condition n false ∷ cs) ds e = behind-accepted cs ds e
+
+pub refused-front : (n : ℕ) (cs ds : List Condition) → verdict cs ≡ refused n → verdict (cs ++ ds) ≡ refused n
+unfolding verdict
+refused-front n [] ds e = absurd (true≢false (cc))
+refused-front n (condition k true ∷ cs) ds e = e
+refused-front n (condition k false ∷ cs) ds e = refused-front n cs ds e
+
+pub both-accepted : (cs ds : List Condition) → verdict (cs ++ ds) ≡ accepted → (verdict cs ≡ accepted) × (verdict ds ≡ accepted)
+unfolding verdict
+both-accepted [] ds e = (refl, e)
+both-accepted (condition n true ∷ cs) ds e = absurd (true≢false (cc))
+both-accepted (condition n false ∷ cs) ds e = both-accepted cs ds e
+
+-- ---- conditions before others
+
 -- what is refused before a condition is refused
 pub refused-before : (n m : ℕ) (cs : List Condition) → verdict (until n cs) ≡ refused m → verdict cs ≡ refused m
 unfolding verdict until
@@ -87,3 +111,13 @@ above-zero (condition n false ∷ cs) a h = above-zero cs (both (ltb 0 n) _ a .1
 pub number-refused : (v : Verdict) (n : ℕ) → n ≡ refusalOf v → (n ≡ 0 → ⊥) → v ≡ refused n
 number-refused (refused m) n e z = ap refused (sym e)
 number-refused accepted n e z = absurd (z e)
+
+-- no condition has the number 0
+abbrev pub Numbered : List Condition → Type 0
+Numbered cs = every (λ (c : Condition). ltb 0 (numberOf c)) cs ≡ true
+
+pub refused-numbered : (cs : List Condition) → Numbered cs → (k : ℕ) → verdict cs ≡ refused k → 0 < k
+refused-numbered cs n k h = elim (eq-zero-or-pos k) [
+  | inl z ↦ let e : accepted ≡ refused k = sym (above-zero cs n (ap refusalOf h ∙ z)) ∙ h in absurd (true≢false (cc))
+  | inr p ↦ p
+]

@@ -5,7 +5,7 @@ use mathlib.Core.Bool.{true, false}
 use Prim.Native.Nat.{ℕ, _≤_}
 use lib.ListN.{length}
 use Rattle.limits.specs.Limits.{mostBytes, mostLines, mostPoints, mostLinks}
-use Rattle.drawing_spec.specs.Drawing.{Point, Drawing}
+use Rattle.drawing_spec.specs.Drawing.{PointOf, DrawingOf, Drawing}
 use Rattle.lists.specs.Members.{All}
 use Rattle.drawing_spec.specs.OnGrid.{OnGrid, AtEnds}
 use Rattle.drawing_spec.specs.Read.{total, recordsOf, isCut, sketchOf, kindsFit, lengthsFit, settingsFit, countsFit, ownLinksFit, coordinatesFit}
@@ -22,11 +22,11 @@ pub record Passed (file : List ℕ) : Type 0 where
   pub own-links : ownLinksFit (sketchOf (recordsOf file)) ≡ true
   pub on-grid : coordinatesFit (sketchOf (recordsOf file)) ≡ true
 
--- ---- a drawing: check 6
+-- ---- a drawing, or a sketch: check 6
 
-pub record Counts (d : Drawing) : Type 0 where
+pub record Counts {C : Type 0} (d : DrawingOf C) : Type 0 where
   pub lines : length (d .lines) ≤ mostLines
-  pub points : total (map (λ (l : List Point). length l) (d .lines)) ≤ mostPoints
+  pub points : total (map (λ (l : List (PointOf C)). length l) (d .lines)) ≤ mostPoints
   pub links : length (d .links) ≤ mostLinks
 
 -- check 6, and every point on the grid, as check 7 has it

@@ -124,10 +124,13 @@ total [] = 0
 total (n ∷ ns) = n + total ns
 
 -- 3: one 1, then any 2s, then any 3s
+abbrev pub allLinks : List Record → Bool
+allLinks rs = every (λ (l : Record). eqb (l .kind) kindLink) rs
+
 unfoldable pub linesThenLinks : List Record → Bool
 unfolding every
 linesThenLinks [] = true
-linesThenLinks (r ∷ rs) = (eqb (r .kind) kindLine && linesThenLinks rs) || every (λ (l : Record). eqb (l .kind) kindLink) (r ∷ rs)
+linesThenLinks (r ∷ rs) = (eqb (r .kind) kindLine && linesThenLinks rs) || allLinks (r ∷ rs)
 
 unfoldable pub kindsFit : List Record → Bool
 unfolding linesThenLinks

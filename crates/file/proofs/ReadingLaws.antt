@@ -170,7 +170,7 @@ pub record Taken (file : List ℕ) : Type 0 where
   pub links-fit : linksFit (drawingOf (recordsOf file)) ≡ true
   pub drawing-is : readingOf file .drawing ≡ drawingHeld (drawingOf (recordsOf file))
 
-accepted-only : (v : refusal.Verdict) → verdictFrom v ≡ Accepted → v ≡ refusal.accepted
+pub accepted-only : (v : refusal.Verdict) → verdictFrom v ≡ Accepted → v ≡ refusal.accepted
 accepted-only (refusal.refused n) h = let z : _≡_ {A = ℕ} 0 1 = cc in absurd (omega arith)
 accepted-only refusal.accepted h = refl
 

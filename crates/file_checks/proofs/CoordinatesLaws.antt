@@ -13,12 +13,13 @@ use Rattle.grid.specs.Grid.{readPlace, onGrid}
 use Rattle.drawing_spec.specs.Bytes.{number}
 use Rattle.drawing_spec.specs.Drawing.{PointOf, LinkOf, Pattern}
 use Rattle.drawing_spec.specs.Read.{Record, bodies, every, lengthsFit, coordinatesFit, pointFits, spots, spotsOfLine, sketchedLink, sketchOf, recordsOf, isCut}
+use Rattle.drawing_spec.proofs.Records.{bodies-here, bodies-other}
 use Rattle.file_records.specs.Walk.{sizeAt, kindAt, bodyAt, nextAt, recordsFrom, cutFrom}
 use Rattle.file_records.proofs.Walk.{recordAt, none-left, room, still-whole, record-here, body-long}
 use Rattle.file_reader.specs.Part.{bodyPart, behindAt}
 use Rattle.file_reader.proofs.Part.{part-is, behind-is}
 use Rattle.file_checks.specs.Tally.{lengthFits}
-use Rattle.file_checks.proofs.TallyLaws.{and-assoc, Kind, first, second, third, none, kind-of, bodies-here, bodies-other, lengths-cons}
+use Rattle.file_checks.proofs.TallyLaws.{and-assoc, Kind, first, second, third, none, kind-of, lengths-cons}
 use Rattle.file_checks.specs.Coordinates.{bodyOn, words, wordsOn}
 
 -- ---- what the code computes

@@ -1,4 +1,4 @@
--- Laws of specs/Kinds.
+-- Which records are left.
 use Prim.Native.Nat.{ℕ, _<_}
 use native.Mathlib.Omega.{arith}
 use mathlib.Core.Path.{_≡_, refl, sym, ap, _∙_}
@@ -7,30 +7,11 @@ use mathlib.Core.Bool.{Bool, true, false}
 use lib.ListN.{length}
 use lib.Dec.{eqb, leb}
 use borrow.Author.Tests.{eqb-true, leb-true, leb-false}
-use Rattle.drawing_spec.specs.Read.{Record, bodies, every, linesThenLinks, kindsFit}
+use Rattle.drawing_spec.specs.Read.{Record, bodies, every, allLinks, linesThenLinks}
+use Rattle.drawing_spec.proofs.Records.{bodies-here, links-no-lines}
 use Rattle.file_records.specs.Walk.{recordsFrom}
 use Rattle.file_records.proofs.Walk.{none-left}
-use Rattle.file_checks.proofs.TallyLaws.{or-false, bodies-here, bodies-other}
-use Rattle.file_checks.specs.Kinds.{allLinks}
-
-no : {A : Type 0} → true ≡ false → A
-no h = let z : _≡_ {A = ℕ} 0 1 = cc in absurd (omega arith)
-
-pub links-cons : (r : Record) (rs : List Record) → allLinks (r ∷ rs) ≡ true → (r .kind ≡ 3) × (allLinks rs ≡ true)
-unfolding every
-links-cons r rs h = go (eqb (r .kind) 3) refl
-  where
-    go : (b : Bool) → eqb (r .kind) 3 ≡ b → (r .kind ≡ 3) × (allLinks rs ≡ true)
-    go true e = (eqb-true (r .kind) 3 e, sym (rw e) ∙ h)
-    go false e = no (sym h ∙ rw e)
-
-pub links-no-lines : (rs : List Record) → allLinks rs ≡ true → bodies 2 rs ≡ []
-unfolding bodies
-links-no-lines [] h = refl
-links-no-lines (r ∷ rs) h =
-    let c = links-cons r rs h in
-    let k = c .0 in
-    bodies-other 2 r rs (λ q. omega arith) ∙ links-no-lines rs (c .1)
+use Rattle.file_checks.proofs.TallyLaws.{or-false}
 
 -- while bodies of lines are left, a line is next
 pub line-next : (r : Record) (rs : List Record) → linesThenLinks (r ∷ rs) ≡ true → 0 < length (bodies 2 (r ∷ rs)) → (r .kind ≡ 2) × (linesThenLinks rs ≡ true)
@@ -54,15 +35,6 @@ links-next (r ∷ rs) h none = go (eqb (r .kind) 2) refl
     go : (b : Bool) → eqb (r .kind) 2 ≡ b → allLinks (r ∷ rs) ≡ true
     go true e = let z = ap length (bodies-here 2 r rs (eqb-true (r .kind) 2 e)) in absurd (omega arith)
     go false e = sym (rw e) ∙ h
-
--- the settings come first
-pub settings-next : (r : Record) (rs : List Record) → kindsFit (r ∷ rs) ≡ true → (r .kind ≡ 1) × (linesThenLinks rs ≡ true)
-unfolding kindsFit
-settings-next r rs h = go (eqb (r .kind) 1) refl
-  where
-    go : (b : Bool) → eqb (r .kind) 1 ≡ b → (r .kind ≡ 1) × (linesThenLinks rs ≡ true)
-    go true e = (eqb-true (r .kind) 1 e, sym (rw e) ∙ h)
-    go false e = no (sym h ∙ rw e)
 
 -- where bodies are left, so are bytes
 pub some-left : (k : ℕ) (file : List ℕ) (at : ℕ) → 0 < length (bodies k (recordsFrom file at)) → at < length file

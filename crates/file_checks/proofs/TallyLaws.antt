@@ -8,8 +8,9 @@ use mathlib.Core.List.{List, [], _∷_}
 use mathlib.Core.Bool.{Bool, true, false, _&&_, _||_, cond}
 use lib.ListN.{length}
 use lib.Dec.{eqb}
-use borrow.Author.Tests.{eqb-true, eqb-false, ne-eqb, eq-eqb}
+use borrow.Author.Tests.{eqb-true, eqb-false, ne-eqb}
 use Rattle.drawing_spec.specs.Read.{Record, bodies, every, total, linesThenLinks, kindsFit, lengthsFit, recordsOf, isCut}
+use Rattle.drawing_spec.proofs.Records.{bodies-here, bodies-other}
 use Rattle.file_records.specs.Walk.{sizeAt, kindAt, nextAt, recordsFrom, cutFrom}
 use Rattle.file_records.proofs.Walk.{none-left, room, still-whole, record-here, body-long}
 use Rattle.file_reader.specs.Part.{behindAt}
@@ -72,16 +73,6 @@ kinds rs = ap orderFits (order-is rs noTally) ∙ whole rs
     whole : (rs : List Record) → orderFits (ordered rs Settings) ≡ kindsFit rs
     whole [] = refl
     whole (r ∷ rs) = first r rs (eqb (r .kind) 1) refl
-
--- ---- bodies of a kind, at the front
-
-pub bodies-here : (k : ℕ) (r : Record) (rs : List Record) → r .kind ≡ k → bodies k (r ∷ rs) ≡ r .body ∷ bodies k rs
-unfolding bodies
-bodies-here k r rs e = rw (eq-eqb (r .kind) k e, bodies)
-
-pub bodies-other : (k : ℕ) (r : Record) (rs : List Record) → (r .kind ≡ k → ⊥) → bodies k (r ∷ rs) ≡ bodies k rs
-unfolding bodies
-bodies-other k r rs e = rw (ne-eqb (r .kind) k e, bodies)
 
 -- each record is of kind 1, 2 or 3, or of none of them
 pub data Kind (k : ℕ) : Type 0 where

@@ -2,4 +2,3 @@
 pub mod Tally
 pub mod Settings
 pub mod Coordinates
-pub mod Kinds

@@ -24,7 +24,8 @@ use Rattle.file_drawing.specs.Held.{pointsOf}
 use Rattle.file_reader.specs.Part.{bodyPart, behindAt}
 use Rattle.file_reader.proofs.Part.{part-is, behind-is}
 use Rattle.file_checks.specs.Tally.{pointsIn}
-use Rattle.file_checks.proofs.TallyLaws.{line-size, bodies-here, bodies-other}
+use Rattle.drawing_spec.proofs.Records.{bodies-here, bodies-other}
+use Rattle.file_checks.proofs.TallyLaws.{line-size}
 use Rattle.file_checks.proofs.KindsLaws.{line-next, links-next, some-left}
 use Rattle.file_checks.proofs.CoordinatesLaws.{length-here, lengths-after}
 use Rattle.file_drawing.specs.Stores.{xsOf, ysOf, endsFrom}

@@ -9,7 +9,7 @@ use lib.ListN.{length, take, drop, set, replicate}
 use lib.Seq.{sets}
 use borrow.Author.Tests.{le-leb}
 use Rattle.limits.specs.Limits.{mostLinks}
-use Rattle.drawing_spec.specs.Read.{linkOf, bodies, lengthsFit}
+use Rattle.drawing_spec.specs.Read.{linkOf, bodies, lengthsFit, allLinks}
 use Rattle.file_records.specs.Walk.{sizeAt, kindAt, bodyAt, nextAt, recordsFrom, cutFrom}
 use Rattle.file_records.proofs.Walk.{recordAt, room, still-whole, record-here}
 use Rattle.file_records.specs.Body.{edgeFrom, recordRead}
@@ -20,9 +20,9 @@ use Rattle.file_records.specs.declared.MstEdge.{MstEdge}
 use Rattle.file_reader.specs.Part.{behindAt}
 use Rattle.file_reader.proofs.Part.{behind-is}
 use Rattle.file_drawing.specs.Held.{linkIn, noLink}
-use Rattle.file_checks.proofs.TallyLaws.{link-size, bodies-here}
-use Rattle.file_checks.specs.Kinds.{allLinks}
-use Rattle.file_checks.proofs.KindsLaws.{links-cons, some-left}
+use Rattle.drawing_spec.proofs.Records.{bodies-here, links-cons}
+use Rattle.file_checks.proofs.TallyLaws.{link-size}
+use Rattle.file_checks.proofs.KindsLaws.{some-left}
 use Rattle.file_checks.proofs.CoordinatesLaws.{length-here, lengths-after}
 use Rattle.file_drawing.specs.Links.{AtLinks, linksFrom}
 

@@ -7,10 +7,9 @@ use lib.ListN.{length}
 use lib.Seq.{sets}
 use Rattle.limits.specs.Limits.{kindLine, kindLink, mostLines, mostPoints}
 use Rattle.drawing_spec.specs.Drawing.{Point, linePoints}
-use Rattle.drawing_spec.specs.Read.{pointsOfLine, bodies, linesThenLinks, lengthsFit}
+use Rattle.drawing_spec.specs.Read.{pointsOfLine, bodies, linesThenLinks, lengthsFit, allLinks}
 use Rattle.file_records.specs.Walk.{recordsFrom, cutFrom}
 use Rattle.file_checks.specs.Tally.{pointsIn}
-use Rattle.file_checks.specs.Kinds.{allLinks}
 use Rattle.file_drawing.specs.Stores.{xsOf, ysOf, endsFrom}
 
 -- ---- the lines from a place on

@@ -5,11 +5,10 @@ use mathlib.Core.List.{List, map}
 use mathlib.Core.Bool.{true, false}
 use lib.ListN.{length}
 use Rattle.limits.specs.Limits.{kindLink, mostLinks}
-use Rattle.drawing_spec.specs.Read.{linkOf, bodies, lengthsFit}
+use Rattle.drawing_spec.specs.Read.{linkOf, bodies, lengthsFit, allLinks}
 use Rattle.file_records.specs.Walk.{recordsFrom, cutFrom}
 use Rattle.file_records.specs.Body.{edgeFrom}
 use Rattle.file_records.specs.declared.MstEdge.{MstEdge}
-use Rattle.file_checks.specs.Kinds.{allLinks}
 
 abbrev pub linksFrom : List ℕ → ℕ → List MstEdge
 linksFrom file at = map edgeFrom (map linkOf (bodies kindLink (recordsFrom file at)))

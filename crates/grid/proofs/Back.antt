@@ -76,6 +76,16 @@ coordinate-value g p G h =
     let o = originOfGrid g in
     subst (λ (x : Float). HasValue x (ltb p o) (gap p o) (2 ^ g)) (sym (coordinate-is g p)) (exact-fraction binary64 (ltb p o) (gap p o) g (omega arith) h)
 
+-- a coordinate is a number
+no-nan : (x : Float) (s : Bool) (a d : ℕ) → HasValue x s a d → T (not (isNan x))
+unfolding isNan
+no-nan nan s a d v = v
+no-nan (inf t) s a d v = tt
+no-nan (fin t m e) s a d v = tt
+
+pub coordinate-no-nan : (p : ℕ) → p < 2 ^ 32 → T (not (isNan (coordinate p)))
+coordinate-no-nan p h = no-nan (coordinate p) (ltb p origin) (gap p origin) (2 ^ gridExponent) (coordinate-value gridExponent p (lit≤ tt) (omega arith))
+
 module _ (g : ℕ) (G : g ≤ 40) where
   origin-small : originOfGrid g < 2 ^ 53
   origin-small = lt-of-le-of-lt (mul-le-mul-left reach (pow-mono G)) (omega arith)

@@ -51,6 +51,13 @@ mostPoints = 1024
 abbrev pub mostLinks : ℕ
 mostLinks = 255
 
+-- the bytes of a file with so many lines, points and links: its settings, the head of each line, the points, the links; and the most within check 6
+abbrev pub fileSize : ℕ → ℕ → ℕ → ℕ
+fileSize lines points links = headSize + settingsSize + headSize * lines + pointSize * points + (headSize + linkSize) * links
+
+abbrev pub mostFile : ℕ
+mostFile = fileSize mostLines mostPoints mostLinks
+
 -- checks 10 and 11
 abbrev pub mostOdd : ℕ
 mostOdd = 20
@@ -128,3 +135,7 @@ refusedOutput = 14
 
 abbrev pub refusedOwnLinks : ℕ
 refusedOwnLinks = 15
+
+-- of the writer
+abbrev pub refusedDestination : ℕ
+refusedDestination = 16

@@ -25,6 +25,7 @@ limitsAre = record {
   lines = named.mostLines;
   points = named.mostPoints;
   links = named.mostLinks;
+  file = named.mostFile;
   odd = named.mostOdd;
   edges = named.mostEdges;
   splits = named.mostSplits;
@@ -52,4 +53,5 @@ refusalsAre = record {
   edges = named.refusedEdges;
   output = named.refusedOutput;
   «own_links» = named.refusedOwnLinks;
+  destination = named.refusedDestination;
 }

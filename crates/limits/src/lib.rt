@@ -38,6 +38,13 @@ pub const MOST_POINTS: usize = 1024;
 
 pub const MOST_LINKS: usize = 255;
 
+// The most bytes of a file within check 6: its settings, the head of each line, its points, its links.
+pub const MOST_FILE: usize = HEAD_SIZE
+    + SETTINGS_SIZE
+    + HEAD_SIZE * MOST_LINES
+    + POINT_SIZE * MOST_POINTS
+    + (HEAD_SIZE + LINK_SIZE) * MOST_LINKS;
+
 // Checks 10 and 11: the odd nodes that Optimal pairs.
 pub const MOST_ODD: usize = 20;
 
@@ -92,6 +99,9 @@ pub const REFUSED_OUTPUT: u8 = 14;
 // Links of its own in a file that asks the planner for links: among the checks it stands between 6 and 7.
 pub const REFUSED_OWN_LINKS: u8 = 15;
 
+// The writer's: a destination that is too short for the file.
+pub const REFUSED_DESTINATION: u8 = 16;
+
 pub struct Layout {
     pub settings: u16,
     pub line: u16,
@@ -127,6 +137,7 @@ pub struct Limits {
     pub lines: usize,
     pub points: usize,
     pub links: usize,
+    pub file: usize,
     pub odd: usize,
     pub edges: usize,
     pub splits: usize,
@@ -149,6 +160,7 @@ pub fn limits_tied() -> Limits
         lines: MOST_LINES,
         points: MOST_POINTS,
         links: MOST_LINKS,
+        file: MOST_FILE,
         odd: MOST_ODD,
         edges: MOST_EDGES,
         splits: MOST_SPLITS,
@@ -176,6 +188,7 @@ pub struct Refusals {
     pub edges: u8,
     pub output: u8,
     pub own_links: u8,
+    pub destination: u8,
 }
 
 // And so are its numbers of refusals.
@@ -198,5 +211,6 @@ pub fn refusals_tied() -> Refusals
         edges: REFUSED_EDGES,
         output: REFUSED_OUTPUT,
         own_links: REFUSED_OWN_LINKS,
+        destination: REFUSED_DESTINATION,
     }
 }

@@ -5,7 +5,7 @@ use mathlib.Core.Path.{_≡_, refl, sym, ap, subst}
 use mathlib.Core.Logic.{_⊎_, inl, inr}
 use mathlib.Core.Bool.{Bool, true, false}
 use mathlib.Core.List.{List, [], _∷_, _++_, map, reverse, reverseAux}
-use lib.ListN.{length, getD}
+use lib.ListN.{length, getD, take, drop, take-append-drop}
 use Rattle.lists.specs.Members.{All, In}
 
 -- what holds in both cases of a test holds of the case that is taken
@@ -59,6 +59,17 @@ module _ {A : Type 0} where
     pub all-back : (xs ys : List A) → All P (xs ++ ys) → All P ys
     all-back [] ys a = a
     all-back (x ∷ xs) ys a = all-back xs ys (a .1)
+
+    pub all-take : (n : ℕ) (xs : List A) → All P xs → All P (take n xs)
+    all-take n xs a = all-front (take n xs) (drop n xs) (subst (All P) (sym (take-append-drop n xs)) a)
+
+    pub all-drop : (n : ℕ) (xs : List A) → All P xs → All P (drop n xs)
+    all-drop n xs a = all-back (take n xs) (drop n xs) (subst (All P) (sym (take-append-drop n xs)) a)
+
+    -- what holds at every place, past the end too
+    pub all-by-place : (d : A) (xs : List A) → ((i : ℕ) → P (getD xs i d)) → All P xs
+    all-by-place d [] h = tt
+    all-by-place d (x ∷ xs) h = (h 0, all-by-place d xs (λ i. h (suc i)))
 
     all-reverseAux : (xs before : List A) → All P xs → All P before → All P (reverseAux xs before)
     all-reverseAux [] before a b = b

@@ -16,6 +16,10 @@ module _ {A : Type 0} (l : List A) (i : ℕ) (v d : A) (rest : List A) (e : drop
   pub behind-front : drop (suc i) l ≡ rest
   behind-front = ap (λ (j : ℕ). drop j l) (sym (add-one i)) ∙ sym (drop-drop 1 i l) ∙ ap (drop 1) e
 
+-- what stands n behind the first m
+pub drop-on : {A : Type 0} (m n : ℕ) (l a b : List A) → drop m l ≡ a → drop n a ≡ b → drop (m + n) l ≡ b
+drop-on m n l a b h k = sym (drop-drop n m l) ∙ ap (drop n) h ∙ k
+
 -- stored in two parts
 pub sets-append : {A : Type 0} (l : List A) (i : ℕ) (a b : List A) → sets l i (a ++ b) ≡ sets (sets l i a) (i + length a) b
 sets-append l i [] b = ap (λ (k : ℕ). sets l k b) (sym (add-zero i))

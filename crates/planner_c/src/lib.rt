@@ -1,4 +1,6 @@
-// The planner for programs in other languages.
+// The planner for programs in other languages; `save` is the writer for them.
+pub mod save;
+
 ghost use mathlib.Core.Path.{_≡_};
 ghost use Rattle.planner_spec.specs.Plan.{called, drawingIn};
 ghost use Rattle.planner_spec.specs.Demand3.{Demand3};
@@ -15,6 +17,13 @@ pub struct Outcome {
     pub before: usize,
     pub after: usize,
     pub points: usize,
+}
+
+// The number of a refusal and 0; or 0 and how many bytes the file has.
+#[repr(C)]
+pub struct Saved {
+    pub refusal: u32,
+    pub bytes: usize,
 }
 
 // Plans a drawing file, whatever bytes it holds: `plan_file` of crates/planner, with its answer, output and tables, and

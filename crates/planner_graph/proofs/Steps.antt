@@ -20,7 +20,8 @@ use Rattle.repair_pairs.specs.Refusal.{tableConditions}
 use Rattle.repair_retrace.specs.Outcome.{outcome}
 use Rattle.repair.specs.Parity.{Value, refusal, values, valueOf, parityFor}
 use Rattle.walk_spec.specs.Line.{lineOf}
-use Rattle.planner_spec.specs.LineRecord.{lineRecord, inFront}
+use Rattle.planner_spec.specs.LineRecord.{lineRecord}
+use Rattle.drawing_spec.specs.Bytes.{inFront}
 use Rattle.planner_spec.specs.Plan as plan
 use Rattle.planner_spec.proofs.Plan.{plan-many, plan-tables, plan-stopped, plan-output, plan-drawn}
 use Rattle.planner_graph.proofs.Sum.{repair-summed}

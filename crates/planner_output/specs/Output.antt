@@ -4,7 +4,8 @@ use mathlib.Core.Bool.{Bool, true, false}
 use Prim.Native.Nat.{ℕ, _+_, _*_}
 use lib.ListN.{length}
 use lib.Dec.{ltb}
-use Rattle.planner_spec.specs.LineRecord.{lineRecord, inFront}
+use Rattle.planner_spec.specs.LineRecord.{lineRecord}
+use Rattle.drawing_spec.specs.Bytes.{inFront}
 use Rattle.drawing_spec.specs.Drawing.{Point}
 use Rattle.planner_output.specs.declared.Emitted.{Emitted}
 use Rattle.planner_output.specs.declared.Emitted.the-variants as variant

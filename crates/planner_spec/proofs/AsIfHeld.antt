@@ -26,7 +26,8 @@ use Rattle.walk_spec.specs.Orient.{ends, empty, endPoints, orient}
 use Rattle.links_spec.specs.Made.{linked, held}
 use Rattle.links_spec.proofs.Fits.{linked-within}
 use Rattle.links_spec.proofs.ToPlan.{asked, not-asked}
-use Rattle.planner_spec.specs.LineRecord.{lineRecord, inFront}
+use Rattle.planner_spec.specs.LineRecord.{lineRecord}
+use Rattle.drawing_spec.specs.Bytes.{inFront}
 use Rattle.planner_spec.specs.Plan.{Lent, Outcome, Planned, refuse, planned, oddCount, repairOf, lineFor, graphConditions, outputConditions, answerFor, planRepaired, planGraph, planDrawing, drawingIn, plan}
 use Rattle.planner_spec.specs.Demand3.{Demand3}
 use Rattle.planner_spec.proofs.Plan.{file-accepted}

@@ -12,7 +12,8 @@ use Rattle.limits.specs.Limits.{refusedPath, refusedEdges}
 use Rattle.drawing_spec.specs.Refusal.{numberOf}
 use Rattle.graph_spec.specs.Graph.{Edge, edge, Graph}
 use Rattle.repair_spec.specs.Repair.{Repair, Repairing, stopped, repaired}
-use Rattle.planner_spec.specs.LineRecord.{lineRecord, inFront, lineWritten, Written}
+use Rattle.planner_spec.specs.LineRecord.{lineRecord, lineWritten, Written}
+use Rattle.drawing_spec.specs.Bytes.{inFront}
 use Rattle.planner_spec.proofs.LineRecord.{record-length}
 use Rattle.planner_spec.specs.Plan.{Lent, Answer, refusal, planned, repairOf, graphConditions, outputConditions, planRepaired, planGraph}
 

@@ -5,7 +5,8 @@ use Prim.Native.Nat.{ℕ}
 use Rattle.drawing_spec.specs.Drawing.{Settings, Drawing}
 use Rattle.graph_spec.specs.Graph.{Graph, buildGraph}
 use Rattle.repair_spec.specs.Repair.{Repair, repaired}
-use Rattle.planner_spec.specs.LineRecord.{lineRecord, inFront}
+use Rattle.planner_spec.specs.LineRecord.{lineRecord}
+use Rattle.drawing_spec.specs.Bytes.{inFront}
 use Rattle.planner_spec.specs.Plan.{Lent, Planned, planned, Outcome, drawingIn, lineFor, answerFor, planDrawing, plan}
 use Rattle.planner_spec.proofs.Plan.{Drawn, drawn, file-planned}
 

@@ -7,7 +7,6 @@ use borrow.Author.Tests.{eq-eqb}
 use Prim.Native.Nat.{ℕ, _+_, _*_, _/_, _^_, _≤_, _<_}
 use native.Mathlib.Omega.{arith}
 use lib.ListN.{length, drop, length-append}
-use lib.Seq.{drop-drop}
 use lib.Ieee.{binary64}
 use lib.Ieee.Bits.{toBits-lt}
 use lib.Ieee.Fits.{round-fits}
@@ -17,6 +16,7 @@ use Rattle.drawing_spec.specs.Bytes.{number, bytes}
 use Rattle.drawing_spec.proofs.Back.{number-bytes, bytes-length, drop-bytes}
 use Rattle.drawing_spec.specs.Drawing.{Point}
 use Rattle.lists.specs.Members.{All}
+use Rattle.lists.proofs.Parts.{drop-on}
 use Rattle.drawing_spec.specs.OnGrid.{OnGrid}
 use Rattle.drawing_spec.specs.Read.{points}
 use Rattle.drawing_spec.proofs.Placed.{point-is, points-one, no-points}
@@ -33,10 +33,6 @@ coordinate-back p rest h = rw (number-bytes 8 (writePlace p) rest (written-below
 point-bytes : (p : Point) (ps : List Point) (rest : List ℕ) → pointBytes (p ∷ ps) ++ rest ≡ bytes 8 (writePlace (p .x)) ++ (bytes 8 (writePlace (p .y)) ++ (pointBytes ps ++ rest))
 unfolding pointBytes
 point-bytes p ps rest = simp append-assoc
-
--- what stands n bytes behind the first m
-drop-on : (m n : ℕ) (bs cs ds : List ℕ) → drop m bs ≡ cs → drop n cs ≡ ds → drop (m + n) bs ≡ ds
-drop-on m n bs cs ds h k = sym (drop-drop n m bs) ∙ ap (drop n) h ∙ k
 
 points-back : (ps : List Point) (rest : List ℕ) → All OnGrid ps → points (length ps) (pointBytes ps ++ rest) ≡ ps
 points-back [] rest a = no-points (pointBytes [] ++ rest)

@@ -1,29 +1,17 @@
 -- No refusal has the number 0, so a caller in another language can tell a refusal by it.
-use mathlib.Core.Path.{_≡_, refl, sym, ap, _∙_, subst}
+use mathlib.Core.Path.{_≡_, refl, subst}
 use mathlib.Core.Logic.{inl, inr}
 use mathlib.Core.List.{List}
-use mathlib.Core.Bool.{true}
 use Prim.Native.Nat.{ℕ, _<_}
 use native.Mathlib.Omega.{arith}
-use native.Mathlib.Nat.{eq-zero-or-pos}
-use lib.Dec.{ltb}
 use Rattle.drawing_spec.specs.Drawing.{Settings}
-use Rattle.drawing_spec.specs.Refusal.{Condition, numberOf, Verdict, refused, accepted, refusalOf, verdict}
+use Rattle.drawing_spec.specs.Refusal.{Condition, Verdict, refused, accepted, verdict}
 use Rattle.drawing_spec.specs.Read.{every, readConditions}
-use Rattle.drawing_spec.proofs.Refusal.{above-zero}
+use Rattle.drawing_spec.proofs.Refusal.{Numbered, refused-numbered}
 use Rattle.graph_spec.specs.Graph.{Graph, buildGraph}
 use Rattle.repair_spec.specs.Repair.{Repair, Repairing, stopped, repaired}
 use Rattle.planner_spec.specs.Plan.{Lent, Outcome, refusal, refuse, accept, repairOf, graphConditions, outputConditions, planRepaired, planGraph, drawingIn, plan}
 use Rattle.planner_spec.proofs.Plan.{file-refused, file-accepted, drawing-graph, stops-by}
-
-abbrev Numbered : List Condition → Type 0
-Numbered cs = every (λ (c : Condition). ltb 0 (numberOf c)) cs ≡ true
-
-refused-numbered : (cs : List Condition) → Numbered cs → (k : ℕ) → verdict cs ≡ refused k → 0 < k
-refused-numbered cs n k h = elim (eq-zero-or-pos k) [
-  | inl z ↦ let e : accepted ≡ refused k = sym (above-zero cs n (ap refusalOf h ∙ z)) ∙ h in absurd (let z : _≡_ {A = ℕ} 0 1 = cc in omega arith)
-  | inr p ↦ p
-]
 
 read-numbered : (file : List ℕ) → Numbered (readConditions file)
 unfolding readConditions every

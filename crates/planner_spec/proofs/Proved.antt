@@ -26,7 +26,8 @@ use Rattle.repair_spec.specs.Repair.{Repair}
 use Rattle.repair_spec.proofs.Repaired.{Repaired, fixed}
 use Rattle.walk_spec.proofs.Orient.{orient-all}
 use Rattle.links_spec.proofs.ToPlan.{plan-within}
-use Rattle.planner_spec.specs.LineRecord.{inFront, lineRecord, Written}
+use Rattle.planner_spec.specs.LineRecord.{lineRecord, Written}
+use Rattle.drawing_spec.specs.Bytes.{inFront}
 use Rattle.planner_spec.specs.Plan.{Lent, Planned, Outcome, drawingIn, repairOf, lineFor, planDrawing}
 use Rattle.planner_spec.specs.Words.{retracesIn, copiesBetween, copiesAt, odd, leftOdd}
 use Rattle.planner_spec.proofs.LineRecord.{line-back, record-length}

@@ -7,14 +7,14 @@ use mathlib.Core.Bool.{true, false, true≢false}
 use native.Mathlib.Nat.{eq-zero-or-pos}
 use native.Mathlib.Omega.{arith}
 use lib.ListN.{length, getD, drop, replicate, length-append, length-drop}
-use Rattle.drawing_spec.specs.Bytes.{bytes}
+use Rattle.drawing_spec.specs.Bytes.{bytes, inFront}
 use Rattle.drawing_spec.specs.Drawing.{Point, closing, Drawing}
 use Rattle.drawing_spec.specs.Accepted.{InLimits}
 use Rattle.drawing_spec.specs.Read.{total}
 use Rattle.drawing_spec.proofs.Same.{differ}
 use Rattle.graph_spec.specs.Count.{lineSum, stepsBetween, lastFrom}
 use Rattle.walk_spec.specs.Orient.{lastOf}
-use Rattle.planner_spec.specs.LineRecord.{pointBytes, lineRecord, inFront, lineWritten}
+use Rattle.planner_spec.specs.LineRecord.{pointBytes, lineRecord, lineWritten}
 use Rattle.planner_spec.specs.Plan.{Lent, Planned, planned, planDrawing, plan, drawingIn}
 use Rattle.planner_spec.specs.Words.{piecesBetween, linksBetween, copiesBetween, drawnAt, copiesAt, leftOdd}
 use Rattle.planner_spec.specs.Demand3.{NoneOdd, Ends, Demand3}

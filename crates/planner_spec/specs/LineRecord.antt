@@ -7,7 +7,7 @@ use lib.ListN.{length, drop}
 use lib.Dec.{eqb}
 use Rattle.limits.specs.Limits.{kindAnswer, headSize, pointSize}
 use Rattle.grid.specs.Grid.{writePlace, writeOnGrid}
-use Rattle.drawing_spec.specs.Bytes.{number, bytes}
+use Rattle.drawing_spec.specs.Bytes.{number, bytes, inFront}
 use Rattle.drawing_spec.specs.Drawing.{Point}
 use Rattle.lists.specs.Members.{All}
 use Rattle.drawing_spec.specs.OnGrid.{OnGrid}
@@ -23,10 +23,6 @@ pointBytes (p ∷ ps) = bytes 8 (writePlace (p .x)) ++ bytes 8 (writePlace (p .y
 unfoldable pub lineRecord : List Point → List ℕ
 unfolding pointBytes
 lineRecord line = bytes 4 (pointSize * length line) ++ bytes 2 kindAnswer ++ pointBytes line
-
--- a record at the front of the output; later bytes keep their value
-abbrev pub inFront : List ℕ → List ℕ → List ℕ
-inFront written output = written ++ drop (length written) output
 
 -- ---- read back
 

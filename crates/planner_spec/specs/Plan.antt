@@ -16,7 +16,8 @@ use Rattle.repair_spec.specs.Distance.{zeroLength}
 use Rattle.repair_spec.specs.Repair.{Repair, Repairing, stopped, repaired, fixParity, tooManyOdd, tableShort}
 use Rattle.links_spec.specs.Made.{toPlan}
 use Rattle.walk_spec.specs.Line.{lineOf}
-use Rattle.planner_spec.specs.LineRecord.{lineRecord, inFront}
+use Rattle.planner_spec.specs.LineRecord.{lineRecord}
+use Rattle.drawing_spec.specs.Bytes.{inFront}
 
 -- what a caller lends: how many entries the f64 table and the byte table have, and the output's bytes
 pub record Lent : Type 0 where

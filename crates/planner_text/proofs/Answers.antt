@@ -11,7 +11,7 @@ use Rattle.io.specs.Counts.{Counts}
 use Rattle.limits.specs.Limits.{mostEdges}
 use Rattle.sums.specs.Key.{Nonneg}
 use Rattle.drawing_spec.specs.Read.{points}
-use Rattle.planner_spec.specs.LineRecord.{inFront}
+use Rattle.drawing_spec.specs.Bytes.{inFront}
 use Rattle.planner_graph.specs.Answer.{answerOf}
 use Rattle.planner_graph.specs.declared.Answer.{Answer}
 use Rattle.planner_graph.specs.declared.Answer.the-variants.{Refused, Planned}

@@ -1,5 +1,5 @@
 // What the program `plan` prints, made as one text, so that it is written by one call: number by number, the calls took longer than
-// the plan. A crate of its own, since it is the program's alone.
+// the plan. A crate of its own, since it is the programs' alone: `save` prints a refusal as `plan` does.
 ghost use mathlib.Core.Path.{_≡_};
 ghost use mathlib.Core.List.{_∷_, [], _++_};
 ghost use Prim.Native.Nat.{_+_, _*_, _≤_};
@@ -8,7 +8,7 @@ ghost use lib.Ieee.{binary64, toBits};
 ghost use Rattle.io.specs.Counts.{Counts};
 ghost use Rattle.sums.specs.Key.{Nonneg};
 ghost use Rattle.drawing_spec.specs.Read.{point, points};
-ghost use Rattle.planner_spec.specs.LineRecord.{inFront};
+ghost use Rattle.drawing_spec.specs.Bytes.{inFront};
 ghost use Rattle.planner_graph.specs.Answer.{answerOf};
 ghost use Rattle.planner_text.specs.Text.{decimal, hex, stepsText, pointText, pointsText, field, firstLine, printed, refusedWord, blank, lineEnd};
 ghost use Rattle.planner_text.specs.Put.{Put, textRoom, Printable};
@@ -136,7 +136,7 @@ fn put_counts(text: &mut [u8], bits: u64, before: usize, after: usize, count: us
 }
 
 // Puts the line of a refusal.
-fn put_refusal(text: &mut [u8], number: u8) -> usize
+pub fn put_refusal(text: &mut [u8], number: u8) -> usize
     requires { ⌜ 29 ≤ length (now text) ⌝ }
     ensures put { λ r. ⌜ Put (now (text .entry)) 0 (refusedWord ++ field number lineEnd) (now (text .exit)) r ⌝ }
     ensures short { λ r. ⌜ r ≤ 29 ⌝ }

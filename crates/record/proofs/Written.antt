@@ -10,8 +10,8 @@ use lib.Seq.{sets, sets-eq, length-sets, slice, slice-cons, length-take-le}
 use Rattle.limits.specs.Limits.{mostNodes, lineRoom}
 use Rattle.grid.specs.Grid.{writePlace}
 use Rattle.drawing_spec.specs.Drawing.{Point}
-use Rattle.drawing_spec.specs.Bytes.{bytes}
-use Rattle.planner_spec.specs.LineRecord.{pointBytes, lineRecord, inFront}
+use Rattle.drawing_spec.specs.Bytes.{bytes, inFront}
+use Rattle.planner_spec.specs.LineRecord.{pointBytes, lineRecord}
 use Rattle.graph_arrays.specs.Arrays.{pointIn}
 use Rattle.graph_arrays.specs.NodeList.{NodeList}
 use Rattle.lists.proofs.Parts.{sets-append}

@@ -4,9 +4,9 @@ ghost use mathlib.Core.Path.{_≡_};
 ghost use Prim.Native.Nat.{_+_, _*_, _≤_, _<_};
 ghost use lib.ListN.{length};
 ghost use lib.Seq.{sets};
-ghost use Rattle.planner_spec.specs.LineRecord.{lineRecord, inFront};
+ghost use Rattle.planner_spec.specs.LineRecord.{lineRecord};
 ghost use Rattle.limits.specs.Limits.{headSize, pointSize, mostNodes, lineRoom};
-ghost use Rattle.drawing_spec.specs.Bytes.{bytes};
+ghost use Rattle.drawing_spec.specs.Bytes.{inFront};
 ghost use Rattle.graph_arrays.specs.NodeList.{NodeList};
 ghost use Rattle.record.specs.Written.{placeBytes, pointsIn};
 use limits::HEAD_SIZE;
@@ -15,29 +15,13 @@ use limits::LINE_ROOM;
 use limits::MOST_NODES;
 use limits::POINT_SIZE;
 
-// Puts a number into `size` bytes from a place on.
-fn write_number(output: &mut [u8], at: usize, size: usize, n: u64)
-    requires { ⌜ at + size ≤ length (now output) ⌝ }
-    ensures { λ _. ⌜ now (output .exit) ≡ sets (now (output .entry)) at (bytes size n) ⌝ }
-{
-    let mut place = at;
-    let mut left = size;
-    let mut rest = n;
-    while left > 0 {
-        output[place] = (rest % 256) as u8;
-        place += 1;
-        left -= 1;
-        rest /= 256;
-    }
-}
-
 // Puts the point at the places x and y into 16 bytes.
 fn write_point(output: &mut [u8], at: usize, x: u32, y: u32)
     requires { ⌜ at + pointSize ≤ length (now output) ⌝ }
     ensures { λ _. ⌜ now (output .exit) ≡ sets (now (output .entry)) at (placeBytes x y) ⌝ }
 {
-    write_number(output, at, 8, grid::write_place(x));
-    write_number(output, at + 8, 8, grid::write_place(y));
+    number_bytes::write_number(output, at, 8, grid::write_place(x));
+    number_bytes::write_number(output, at + 8, 8, grid::write_place(y));
 }
 
 // Writes the record of a line of `count` nodes into an output that has room for it. Later bytes keep their value.
@@ -52,8 +36,8 @@ pub fn write_line(
     requires room { ⌜ headSize + pointSize * count ≤ length (now output) ⌝ }
     ensures { λ _. ⌜ now (output .exit) ≡ inFront (lineRecord (pointsIn (now (xs .entry)) (now (ys .entry)) (now (line .entry)) count)) (now (output .entry)) ⌝ }
 {
-    write_number(output, 0, 4, (POINT_SIZE * count) as u64);
-    write_number(output, 4, 2, KIND_ANSWER as u64);
+    number_bytes::write_number(output, 0, 4, (POINT_SIZE * count) as u64);
+    number_bytes::write_number(output, 4, 2, KIND_ANSWER as u64);
     let mut i = 0;
     while i < count {
         let v = widen::wide(line[i]);

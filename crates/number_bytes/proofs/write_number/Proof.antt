@@ -1,10 +1,10 @@
--- `record::write_number` meets its contract. The invariant: the bytes that are left, stored from here on, give all. Assumes nothing.
+-- `number_bytes::write_number` meets its contract. The invariant: the bytes that are left, stored from here on, give all. Assumes nothing.
 use Prim.Native.Nat.{_+_, _≤_}
 use lib.ListN.{length}
-use Rattle.record.proofs.Stored.{Storing, storing-none, storing-more, storing-all}
+use Rattle.number_bytes.proofs.Stored.{Storing, storing-none, storing-more, storing-all}
 use borrow.Author.Needs.{needs}
-use Rattle.record.proofs.write_number.Statement.{statement}
-use Rattle.record.proofs.write_number.Tie as tie
+use Rattle.number_bytes.proofs.write_number.Statement.{statement}
+use Rattle.number_bytes.proofs.write_number.Tie as tie
 
 abbrev Inv-loop : tie.InvT-loop
 Inv-loop output₀ at size n place₀ left₀ rest₀ output place left rest = Storing output₀ at size n output place left rest × (at + size ≤ length output₀)

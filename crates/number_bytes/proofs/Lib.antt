@@ -1,0 +1,2 @@
+-- Bytes stored one behind the other.
+pub mod Stored

@@ -1,0 +1,3 @@
+-- The conditions one after the other, and the whole answer.
+pub mod RefusalLaws
+pub mod SaveLaws

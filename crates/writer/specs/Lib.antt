@@ -1,0 +1,2 @@
+-- The writer's answer.
+pub mod Saved

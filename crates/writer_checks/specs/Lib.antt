@@ -1,0 +1,2 @@
+-- The writer's checks, on the lists that it is handed.
+pub mod Checked

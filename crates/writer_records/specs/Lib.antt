@@ -1,0 +1,2 @@
+-- What the writer stores, record by record.
+pub mod Stored
