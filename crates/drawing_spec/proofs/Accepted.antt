@@ -1,6 +1,6 @@
 -- Laws of specs/Accepted.
 use mathlib.Core.Path.{_≡_, refl, sym, ap, _∙_}
-use mathlib.Core.List.{List, [], _∷_}
+use mathlib.Core.List.{List, [], _∷_, map}
 use mathlib.Core.Bool.{Bool, true, not, _||_}
 use Prim.Native.Nat.{ℕ}
 use native.Mathlib.Omega.{arith}
@@ -65,6 +65,11 @@ pub every-all : {A : Type 0} (f : A → Bool) (xs : List A) → every f xs ≡ t
 unfolding every
 every-all f [] e = tt
 every-all f (x ∷ xs) e = let t = both (f x) (every f xs) e in (t .0, every-all f xs (t .1))
+
+pub every-map : {A B : Type 0} (f : A → B) (test : B → Bool) (xs : List A) → All (λ (x : A). test (f x) ≡ true) xs → every test (map f xs) ≡ true
+unfolding every
+every-map f test [] a = refl
+every-map f test (x ∷ xs) a = rw (a .0) (every-map f test xs (a .1))
 
 -- ---- where the planner makes the links, a file that passes has none of its own
 

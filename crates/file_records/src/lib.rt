@@ -9,7 +9,6 @@ ghost use Rattle.drawing_spec.specs.Bytes.{number};
 ghost use Rattle.drawing_spec.specs.Read.{settingsOf, linkOf, point};
 ghost use Rattle.file_records.specs.Walk.{sizeAt, kindAt, nextAt};
 ghost use Rattle.file_records.specs.Body.{settingsFrom, pointFrom, edgeFrom, wholeAt, bodyRead, recordRead};
-use grid::Place;
 use limits::HEAD_SIZE;
 use limits::KIND_LINE;
 use limits::KIND_LINK;
@@ -125,10 +124,7 @@ pub fn on_grid(file: &[u8], at: usize) -> bool
     requires { ⌜ at + 8 ≤ length (now file) ⌝ }
     ensures { λ r. ⌜ r ≡ onGrid (readPlace (number 8 (drop at (now (file .entry))))) ⌝ }
 {
-    match grid::read_place(number8(file, at)) {
-        Place::On(_) => true,
-        Place::Off => false,
-    }
+    grid::on_grid(number8(file, at))
 }
 
 fn point_at(file: &[u8], at: usize) -> Point

@@ -1,6 +1,6 @@
 // Coordinates: from the 64 bits that a file holds to a place on the grid, and back.
 ghost use mathlib.Core.Path.{_≡_};
-ghost use Rattle.grid.specs.Grid.{readPlace, placeAt, coordinate, writePlace};
+ghost use Rattle.grid.specs.Grid.{readPlace, placeAt, onGrid, coordinate, writePlace};
 
 // Where a coordinate lies: so many grid steps from -4,096, or not on the grid.
 pub enum Place {
@@ -60,6 +60,16 @@ pub fn read_place(bits: u64) -> Place
         Place::On(ORIGIN + count)
     } else {
         Place::On(ORIGIN - count)
+    }
+}
+
+// Check 7 alone.
+pub fn on_grid(bits: u64) -> bool
+    ensures { λ r. ⌜ r ≡ onGrid (readPlace bits) ⌝ }
+{
+    match read_place(bits) {
+        Place::On(_) => true,
+        Place::Off => false,
     }
 }
 

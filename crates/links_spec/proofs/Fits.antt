@@ -13,15 +13,11 @@ use Rattle.drawing_spec.specs.Drawing.{Point, noPoint, Link, Drawing}
 use Rattle.drawing_spec.specs.Read.{every, endFits, linksFit, total}
 use Rattle.drawing_spec.specs.OnGrid.{OnGrid, AtEnds}
 use Rattle.drawing_spec.specs.Accepted.{InLimits}
+use Rattle.drawing_spec.proofs.Accepted.{every-map}
 use Rattle.spanning.proofs.Counts.{count-most}
 use Rattle.links_spec.specs.Candidates.{Candidate, IsCandidate, lineAt, hasPoints, endPoint, endSegment, lowPoint, highPoint}
 use Rattle.links_spec.specs.Made.{made, asLink, madeLinks, linked}
 use Rattle.links_spec.proofs.Made.{made-links-all}
-
-every-map : {A B : Type 0} (f : A → B) (test : B → Bool) (xs : List A) → All (λ (x : A). test (f x) ≡ true) xs → every test (map f xs) ≡ true
-unfolding every
-every-map f test [] a = refl
-every-map f test (x ∷ xs) a = rw (a .0) (every-map f test xs (a .1))
 
 module _ (ls : List (List Point)) where
   -- check 6

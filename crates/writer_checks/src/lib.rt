@@ -4,10 +4,8 @@ ghost use mathlib.Core.Path.{_≡_};
 ghost use Prim.Native.Nat.{_+_, _-_, _*_, _/_, _≤_};
 ghost use lib.ListN.{length};
 ghost use lib.Dec.{eqb};
-ghost use Rattle.grid.specs.Grid.{readPlace, onGrid};
 ghost use Rattle.drawing_spec.specs.Read.{total};
 ghost use Rattle.writer_checks.specs.Checked.{allOn, endIn, linkIn, linksIn};
-use grid::Place;
 
 // Whether there are two coordinates for each point of the lines.
 pub fn points_fit(sizes: &[u32], coordinates: &[u64]) -> bool
@@ -27,22 +25,13 @@ pub fn points_fit(sizes: &[u32], coordinates: &[u64]) -> bool
     left == 0
 }
 
-// Check 7, of one coordinate and of a slice of them.
-fn on_grid(bits: u64) -> bool
-    ensures { λ r. ⌜ r ≡ onGrid (readPlace bits) ⌝ }
-{
-    match grid::read_place(bits) {
-        Place::On(_) => true,
-        Place::Off => false,
-    }
-}
-
+// Check 7, of a slice of coordinates.
 pub fn all_on(words: &[u64]) -> bool
     ensures { λ r. ⌜ r ≡ allOn (now (words .entry)) ⌝ }
 {
     let mut i = 0;
     while i < words.len() {
-        let on = on_grid(words[i]);
+        let on = grid::on_grid(words[i]);
         if !on {
             return false;
         }

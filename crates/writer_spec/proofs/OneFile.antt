@@ -9,12 +9,12 @@ use lib.Dec.{eqb}
 use borrow.Author.Tests.{eq-eqb, le-ltb}
 use Rattle.limits.specs.Limits.{kindSettings, kindLine, kindLink, settingsSize, pointSize, linkSize, mostBytes}
 use Rattle.lists.specs.Members.{All}
-use Rattle.lists.proofs.Members.{all-append, all-map, all-imp}
+use Rattle.lists.proofs.Members.{in-all, all-append, all-map, all-imp}
 use Rattle.drawing_spec.specs.Bytes.{bytes}
 use Rattle.drawing_spec.specs.Drawing.{PointOf, Settings, LinkOf, Pattern, Sketch, linking}
 use Rattle.drawing_spec.specs.Refusal.{refused, accepted, verdict}
 use Rattle.drawing_spec.proofs.Refusal.{behind-accepted, both-accepted}
-use Rattle.drawing_spec.proofs.Accepted.{accepted-passes, sketch-no-links}
+use Rattle.drawing_spec.proofs.Accepted.{accepted-passes, every-map, sketch-no-links}
 use Rattle.drawing_spec.specs.Read.{Record, recordsOf, isCut, bodies, sketchOf, every, kindsFit, linesThenLinks, lengthsFit, sketchConditions, recordConditions, readConditions}
 use Rattle.writer_spec.specs.File.{recordBytes, joined, settingsBytes, spotBytes, lineBytes, linkBytes, settingsAsRecord, lineAsRecord, linkAsRecord, recordsFor, fileOf}
 use Rattle.writer_spec.specs.OneFile.{Byte, ReadsAs, OneFile, Held, Patterned}
@@ -73,11 +73,6 @@ settings-bodies : (s : Sketch) → bodies kindSettings (recordsFor s) ≡ settin
 unfolding recordsFor bodies
 settings-bodies s = ap (λ (bs : List (List ℕ)). settingsBytes (s .settings) ∷ bs) (lines-no-settings (s .lines) (s .links))
 
-every-map : {A : Type 0} (f : List ℕ → Bool) (g : A → List ℕ) → ((a : A) → f (g a) ≡ true) → (xs : List A) → every f (map g xs) ≡ true
-unfolding every
-every-map f g e [] = refl
-every-map f g e (x ∷ xs) = (λ i. e x i && every-map f g e xs i)
-
 every-one : (f : List ℕ → Bool) (b : List ℕ) → f b ≡ true → every f (b ∷ []) ≡ true
 unfolding every
 every-one f b h = λ i. h i && true
@@ -89,9 +84,9 @@ lengths-fit s =
     ap (every (λ (b : List ℕ). eqb (length b) settingsSize)) (settings-bodies s) ∙ every-one (λ (b : List ℕ). eqb (length b) settingsSize) (settingsBytes (s .settings)) (eq-eqb _ settingsSize (settings-length (s .settings))) in
     let two : every (λ (b : List ℕ). eqb (length b % pointSize) 0) (bodies kindLine (recordsFor s)) ≡ true =
     ap (every (λ (b : List ℕ). eqb (length b % pointSize) 0)) (bodies-lines s)
-    ∙ every-map (λ (b : List ℕ). eqb (length b % pointSize) 0) lineBytes (λ l. let n = line-length l in eq-eqb (length (lineBytes l) % pointSize) 0 (omega arith)) (s .lines) in
+    ∙ every-map lineBytes (λ (b : List ℕ). eqb (length b % pointSize) 0) (s .lines) (in-all (λ (l : List (PointOf Pattern)). eqb (length (lineBytes l) % pointSize) 0 ≡ true) (s .lines) (λ l i. let n = line-length l in eq-eqb (length (lineBytes l) % pointSize) 0 (omega arith))) in
     let three : every (λ (b : List ℕ). eqb (length b) linkSize) (bodies kindLink (recordsFor s)) ≡ true =
-    ap (every (λ (b : List ℕ). eqb (length b) linkSize)) (bodies-links s) ∙ every-map (λ (b : List ℕ). eqb (length b) linkSize) linkBytes (λ k. eq-eqb (length (linkBytes k)) linkSize (link-length k)) (s .links) in
+    ap (every (λ (b : List ℕ). eqb (length b) linkSize)) (bodies-links s) ∙ every-map linkBytes (λ (b : List ℕ). eqb (length b) linkSize) (s .links) (in-all (λ (k : LinkOf Pattern). eqb (length (linkBytes k)) linkSize ≡ true) (s .links) (λ k i. eq-eqb (length (linkBytes k)) linkSize (link-length k))) in
     λ i. (one i && two i) && three i
 
 -- ---- what the reader says of a sketch's file

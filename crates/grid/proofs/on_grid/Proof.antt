@@ -1,9 +1,9 @@
--- `writer_checks::on_grid` meets its contract. Assumes nothing.
+-- `grid::on_grid` meets its contract. Assumes nothing.
 use mathlib.Core.Path.{sym, ap, _∙_}
 use Rattle.grid.specs.Grid.{onGrid}
 use borrow.Author.Needs.{needs}
-use Rattle.writer_checks.proofs.on_grid.Statement.{statement}
-use Rattle.writer_checks.proofs.on_grid.Tie as tie
+use Rattle.grid.proofs.on_grid.Statement.{statement}
+use Rattle.grid.proofs.on_grid.Tie as tie
 
 read-place-requires : tie.Need-read-place-requires
 read-place-requires c κs = search needs
