@@ -177,7 +177,8 @@ static struct planner_saved saved_to(const struct planner_drawing *d, uint8_t *d
 }
 
 /* The nearest coordinate on the grid; half a step goes away from 0. What lies outside -4,096 to 4,096, or is no number, stays as
- * it is, so that saving gives 7. The product and the rest are exact, and a whole number takes the minus sign from a zero. */
+ * it is, so that saving gives 7. The product and the rest are exact. A zero comes out as 0.0, since a whole number has no -0; the
+ * writer would take -0.0 as well, and save 0.0. */
 static double on_grid(double pixels)
 {
     if (!(pixels >= -4096 && pixels <= 4096))
@@ -263,6 +264,35 @@ static void linked_by_the_planner(void)
     free(output);
 }
 
+/* A line, a dot and a link between them, with points on both axes; zero is 0.0 or -0.0. */
+static void draw_zeros(struct planner_drawing *d, double zero)
+{
+    planner_begin(d, 8, 8, PLANNER_GREEDY, 0);
+    planner_line(d);
+    planner_point(d, zero, zero);
+    planner_point(d, 3, zero);
+    planner_point(d, zero, 4);
+    planner_line(d);
+    planner_point(d, -2, zero);
+    planner_link(d, planner_at(0, 0, zero, zero), planner_at(1, 0, -2, zero));
+}
+
+/* A -0.0 that is handed to the writer is saved as 0.0, and the drawing keeps its own. */
+static void minus_zeros_saved(void)
+{
+    static struct planner_drawing plain, minus;
+    uint8_t *file = destination_for(PLANNER_MOST_FILE), *again = destination_for(PLANNER_MOST_FILE);
+    draw_zeros(&plain, 0.0);
+    draw_zeros(&minus, -0.0);
+    if (memcmp(plain.coordinates, minus.coordinates, sizeof(double)) == 0 || memcmp(plain.ends, minus.ends, sizeof(double)) == 0)
+        broken("0.0 and -0.0 are handed in as two patterns");
+    struct planner_saved r = saved_to(&plain, file, PLANNER_MOST_FILE), s = saved_to(&minus, again, PLANNER_MOST_FILE);
+    if (r.refusal || s.refusal || r.bytes != s.bytes || memcmp(file, again, r.bytes) != 0)
+        broken("-0.0 is saved as 0.0");
+    free(file);
+    free(again);
+}
+
 static void built(const char *path)
 {
     static struct planner_drawing d;
@@ -298,6 +328,7 @@ static void built(const char *path)
     if (saved_to(&d, again, PLANNER_MOST_FILE).refusal != PLANNER_TOO_MUCH)
         broken("too much is told by 6");
     linked_by_the_planner();
+    minus_zeros_saved();
     FILE *target = fopen(path, "wb");
     if (!target || fwrite(file, 1, r.bytes, target) != r.bytes || fclose(target) != 0)
         wrong("the drawing can't be written there");

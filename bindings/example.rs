@@ -75,8 +75,8 @@ fn saved_to(length: usize, save: impl Fn(&mut [u8]) -> Result<&[u8], Refusal>) -
     answer
 }
 
-/// The nearest coordinate on the grid; half a step goes away from 0, and adding 0.0 takes the minus sign from a zero. What lies
-/// outside -4,096 to 4,096, or is no number, stays as it is, so that saving gives 7.
+/// The nearest coordinate on the grid; half a step goes away from 0. What lies outside -4,096 to 4,096, or is no number, stays as it
+/// is, so that saving gives 7. Adding 0.0 makes 0.0 of -0.0; the writer would take -0.0 as well, and save 0.0.
 fn on_grid(pixels: f64) -> f64 {
     if !(-4096.0..=4096.0).contains(&pixels) {
         return pixels;
@@ -139,6 +139,25 @@ fn linked_by_the_planner() {
     holds("links that the planner makes are not saved", records(&file, 2) == 3 && records(&file, 3) == 0);
 }
 
+/// A line, a dot and a link between them, with points on both axes; zero is 0.0 or -0.0.
+fn with_zeros(zero: f64) -> Drawing {
+    let mut drawing = Drawing::new(8, 8);
+    let line = drawing.line(&[(zero, zero), (3.0, zero), (zero, 4.0)]);
+    let dot = drawing.line(&[(-2.0, zero)]);
+    drawing.link(End { line, segment: 0, point: (zero, zero) }, End { line: dot, segment: 0, point: (-2.0, zero) });
+    drawing
+}
+
+/// A -0.0 that is handed to the writer is saved as 0.0. The two drawings are equal, since Rust has 0.0 equal to -0.0: what differs
+/// is only how they are written out.
+fn minus_zeros_saved() {
+    let (plain, minus) = (with_zeros(0.0), with_zeros(-0.0));
+    let zeros = |drawing: &Drawing| format!("{drawing:?}").matches("-0.0").count();
+    holds("0.0 and -0.0 are handed in as two patterns", zeros(&plain) == 0 && zeros(&minus) == 8);
+    let [file, again] = [plain, minus].map(|drawing| saved_to(MOST_FILE, |destination| drawing.save_into(destination)));
+    holds("-0.0 is saved as 0.0", file.is_ok() && again == file);
+}
+
 fn built(path: &str) {
     check_grid();
     let drawing = drawn();
@@ -166,6 +185,7 @@ fn built(path: &str) {
     much.line(&[(1.0, 1.0)]);
     holds("too much is told by 6", to(&much, MOST_FILE) == Err(Refusal::TooMuch));
     linked_by_the_planner();
+    minus_zeros_saved();
     holds("the drawing can be written there", std::fs::write(path, &file).is_ok());
     planned(path, [0, 0, output_for(MOST_POINTS)]);
 }

@@ -31,7 +31,7 @@ enum planner_refusal {
     PLANNER_SETTING_OUT_OF_RANGE = 5, /* width, height, pairing or flags */
     PLANNER_TOO_MUCH = 6,             /* more than 256 lines, 1,024 points or 255 links */
     PLANNER_OWN_LINKS = 15,           /* flag 4 asks for links, and the file has links of its own */
-    PLANNER_OFF_THE_GRID = 7,         /* a coordinate is no multiple of 1/1024 from -4,096 to 4,096, or is negative zero */
+    PLANNER_OFF_THE_GRID = 7,         /* a coordinate is no multiple of 1/1024 from -4,096 to 4,096 */
     PLANNER_LINK_ASTRAY = 8,          /* a link names a line or a segment that is not there */
     PLANNER_UNLINKED = 9,             /* some part can't be reached from the first point; never with flag 4 */
     PLANNER_TOO_MANY_ODD = 10,        /* optimal pairing, and more than 20 odd points */
@@ -60,7 +60,7 @@ struct planner_outcome {
     size_t points;    /* points of the line */
 };
 
-/* Plans the drawing file of file_length bytes.
+/* Plans the drawing file of file_length bytes. A coordinate that is -0.0 there is read as 0.0, and the line has no -0.0.
  *
  * Planned: the front of the output holds the line as one record: its body's length as four bytes, the kind 4 as two,
  * then x and y of each point as 8-byte floats, all little-endian. Later bytes of the output keep their values.
@@ -98,7 +98,8 @@ struct planner_saved {
     size_t bytes;     /* of the file */
 };
 
-/* Writes the one drawing file that the planner reads as this drawing.
+/* Writes the one drawing file that the planner reads as this drawing. A coordinate that is -0.0 is saved as 0.0, as the
+ * planner reads it: the file has no -0.0, and of the files without -0.0 no other is read as this drawing.
  *
  * sizes has, for each line, how many points it has; coordinates has x and y of each point, all lines one behind the other.
  * segments has, for each link, the line and the segment of its first end and the line and the segment of its second; ends
@@ -194,7 +195,8 @@ static inline size_t planner_line(struct planner_drawing *d)
 }
 
 /* Adds a point to the line that was started last; where there is none, it starts one. Any x and y may be handed in; what is not on
- * the grid of 1/1024 is refused with 7 when the drawing is saved. on_grid of bindings/example.c rounds to the grid. */
+ * the grid of 1/1024 is refused with 7 when the drawing is saved, and -0.0 is saved as 0.0. on_grid of bindings/example.c rounds
+ * to the grid. */
 static inline void planner_point(struct planner_drawing *d, double x, double y)
 {
     if (d->lines == 0)

@@ -36,7 +36,7 @@ pub enum Refusal {
     TooMuch = 6,
     /// Flag 4 asks for links, and the file has links of its own.
     OwnLinks = 15,
-    /// A coordinate is no multiple of 1/1024 from -4,096 to 4,096, or is negative zero.
+    /// A coordinate is no multiple of 1/1024 from -4,096 to 4,096.
     OffTheGrid = 7,
     /// A link names a line or a segment that is not there.
     LinkAstray = 8,
@@ -152,7 +152,8 @@ pub const fn output_for(points: usize) -> usize {
     6 + 16 * points
 }
 
-/// Plans a drawing file with the tables and the output that are lent.
+/// Plans a drawing file with the tables and the output that are lent. A coordinate that is -0.0 there is read as 0.0, and the
+/// line has no -0.0.
 ///
 /// Planned: the front of the output holds the line as a record of kind 4, and later bytes keep their values. Refused:
 /// all of the output keeps its values. In both cases both tables are zero afterwards, whatever they held before.
@@ -217,7 +218,8 @@ pub struct Settings {
 }
 
 /// Writes the one drawing file that the planner reads as this drawing, and answers the part of the destination that holds
-/// it.
+/// it. A coordinate that is -0.0 is saved as 0.0, as the planner reads it: the file has no -0.0, and of the files without -0.0
+/// no other is read as this drawing.
 ///
 /// `sizes` has, for each line, how many points it has; `coordinates` has x and y of each point, all lines one behind the
 /// other. `segments` has, for each link, the line and the segment of its first end and the line and the segment of its
@@ -316,7 +318,7 @@ impl Drawing {
     }
 
     /// Adds a line, and answers its number, which links name. Any points may be handed in; what is not on the grid of 1/1024
-    /// is refused with 7 when the drawing is saved. `on_grid` of bindings/example.rs rounds to the grid.
+    /// is refused with 7 when the drawing is saved, and -0.0 is saved as 0.0. `on_grid` of bindings/example.rs rounds to the grid.
     ///
     /// Of a drawing that has too many points one too many is kept: the writer refuses it with 6 all the same, and nothing of
     /// it is written. So a line's size always fits a u32.

@@ -1,13 +1,14 @@
 #!/usr/bin/env python3
 """Holds the planner that is linked into the oracle against the published one, on generated drawings, kind by kind.
 
-usage: oracle/against.py ORACLE SEED COUNT [--all-settings | --sizes | --linked | --damaged N | --changed N] [KIND ...]
+usage: oracle/against.py ORACLE SEED COUNT [--all-settings | --sizes | --linked | --minus-zero | --damaged N | --changed N] [KIND ...]
        oracle/against.py ORACLE SEED COUNT --saved | --rewritten [KIND ...]
 
 ORACLE was built with --planner. COUNT drawings of each kind, fewer of the slow kinds (SHARE); with --all-settings each
 with both pairings and all flags, with --sizes each at many sizes of tables and output, with --linked each one also with
-its made links written into it (of the kinds with flag 4 if none is named), with --damaged N damaged copies of each,
-with --changed N copies with points, links and settings changed. oracle/against.rs says what is compared.
+its made links written into it (of the kinds with flag 4 if none is named), with --minus-zero each one also cleaned (of the
+kinds with minus zeros if none is named), with --damaged N damaged copies of each, with --changed N copies with points, links
+and settings changed. oracle/against.rs says what is compared.
 With --saved the drawings are handed to the port's writer, of the kinds of oracle/handed.py; with --rewritten each file is read and
 saved again, those of oracle/answers.txt too, as the kind `answers`. oracle/saved.rs says what is compared.
 Prints the oracle's line for each kind, and the sums.
@@ -24,11 +25,12 @@ import sys
 import answers
 import drawing as d
 import handed
-from generate import KINDS, LINKING_KINDS
+from generate import KINDS, LINKING_KINDS, MINUS_ZERO_KINDS
 
 # The part of COUNT that is made of the kinds that take long to make or to plan.
 SHARE = dict(comb=1 / 100, big=1 / 100, made_many=1 / 100, made_long=1 / 50, honeycomb=1 / 20, near=1 / 5, lace=1 / 4, edges=1 / 4,
-             optimal=1 / 2, saved_large=1 / 10, saved_too_many=1 / 5, saved_lines=1 / 2, saved_far_too_many=1 / 100)
+             optimal=1 / 2, saved_large=1 / 10, saved_too_many=1 / 5, saved_lines=1 / 2, saved_far_too_many=1 / 100,
+             saved_minus_zero_large=1 / 10)
 LISTED = pathlib.Path(__file__).resolve().parent / "answers.txt"
 
 
@@ -55,6 +57,7 @@ def main():
     parser.add_argument("--all-settings", action="store_true")
     parser.add_argument("--sizes", action="store_true")
     parser.add_argument("--linked", action="store_true")
+    parser.add_argument("--minus-zero", action="store_true")
     parser.add_argument("--saved", action="store_true")
     parser.add_argument("--rewritten", action="store_true")
     parser.add_argument("--damaged", type=int)
@@ -62,11 +65,12 @@ def main():
     args = parser.parse_intermixed_args()
     mode = next(([f"--against-{name}", *number] for name, wanted, *number in [
         ("damaged", args.damaged, str(args.damaged)), ("changed", args.changed, str(args.changed)), ("sizes", args.sizes),
-        ("linked", args.linked), ("all-settings", args.all_settings), ("saved", args.saved), ("rewritten", args.rewritten)] if wanted),
-        ["--against"])
+        ("linked", args.linked), ("minus-zero", args.minus_zero), ("all-settings", args.all_settings), ("saved", args.saved),
+        ("rewritten", args.rewritten)] if wanted), ["--against"])
     os.nice(10)
     sums, failed = collections.Counter(), False
-    kinds = handed.HANDED_KINDS if args.saved else LINKING_KINDS if args.linked else ["answers", *KINDS] if args.rewritten else KINDS
+    kinds = next((kinds for wanted, kinds in [(args.saved, handed.HANDED_KINDS), (args.linked, LINKING_KINDS),
+                                              (args.minus_zero, MINUS_ZERO_KINDS), (args.rewritten, ["answers", *KINDS])] if wanted), KINDS)
     for kind in args.kinds or kinds:
         run = subprocess.Popen([args.oracle, *mode], stdin=subprocess.PIPE, stdout=subprocess.PIPE)
         try:

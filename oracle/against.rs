@@ -2,8 +2,9 @@
 //! was lent. The drawings come in batch form on standard input and are read one by one.
 
 pub use crate::handed::hex;
+use crate::handed::Handed;
 use crate::port::{Lender, MOST_ENTRIES, MOST_FILE};
-use crate::{links, next_drawing, stand_in, Lent};
+use crate::{cleaned, links, next_drawing, reader, stand_in, Lent};
 use std::collections::BTreeMap;
 
 pub enum Mode {
@@ -13,6 +14,8 @@ pub enum Mode {
     Sizes,
     /// Each drawing, and with its made links written into it; the published planner gets the second one both times.
     Linked,
+    /// Each drawing, and with plain zeros for its minus zeros; the published planner gets the second one both times.
+    MinusZero,
     /// So many damaged copies of each.
     Damaged(usize),
     /// So many copies of each with points, links and settings changed; most of them are planned.
@@ -23,6 +26,7 @@ pub enum Mode {
 pub struct Tally {
     pub drawings: usize,
     calls: usize,
+    cleaned: usize,
     answers: BTreeMap<u32, usize>,
     pub differ: usize,
     smallest: Option<(Vec<u8>, Lent)>,
@@ -44,6 +48,7 @@ pub fn run(mode: Mode) -> bool {
             }
             Mode::Sizes => tally.compare_sizes(&mut lender, &file),
             Mode::Linked => tally.compare_linked(&mut lender, &file, lent),
+            Mode::MinusZero => tally.compare_cleaned(&mut lender, &file, lent),
             Mode::Damaged(count) => {
                 for _ in 0..count {
                     tally.compare(&mut lender, &random.damaged(&file), lent);
@@ -79,6 +84,23 @@ impl Tally {
         }
     }
 
+    fn compare_cleaned(&mut self, lender: &mut Lender, file: &[u8], lent: Lent) {
+        self.drawings += 1;
+        let plain = cleaned::file(file);
+        let read = |file: &[u8]| reader::read(file).map(|drawing| Handed::of_drawing(&drawing));
+        let is_read_alike = read(file) == read(&plain);
+        let wanted = stand_in::plan(&plain, lent);
+        let lent = self.enough(file, &wanted, lent);
+        if !is_read_alike {
+            self.differs(file, lent);
+        }
+        self.call(lender, file, lent, &wanted);
+        if plain != file {
+            self.cleaned += 1;
+            self.call(lender, &plain, lent, &wanted);
+        }
+    }
+
     /// What is lent to the port.
     fn enough(&self, file: &[u8], wanted: &Result<stand_in::Plan, u32>, lent: Lent) -> Lent {
         // Large tables take their time to fill and to look at: where those that are lent suffice, so do smaller ones,
@@ -107,13 +129,18 @@ impl Tally {
             Ok(plan) => {
                 numbers == (0, plan.retrace.to_bits(), plan.odd_before, plan.odd_after, plan.points.len())
                     && written == record(&plan.points)
+                    && cleaned::is_plain(&written[6..])
             }
         };
         if !same {
-            self.differ += 1;
-            if self.smallest.as_ref().is_none_or(|(known, _)| file.len() < known.len()) {
-                self.smallest = Some((file.to_vec(), lent));
-            }
+            self.differs(file, lent);
+        }
+    }
+
+    fn differs(&mut self, file: &[u8], lent: Lent) {
+        self.differ += 1;
+        if self.smallest.as_ref().is_none_or(|(known, _)| file.len() < known.len()) {
+            self.smallest = Some((file.to_vec(), lent));
         }
     }
 
@@ -152,7 +179,8 @@ impl Tally {
     pub fn print(&self) {
         let name = |number: &u32| if *number == 0 { "ok".to_owned() } else { format!("refused {number}") };
         let answers: Vec<String> = self.answers.iter().map(|(number, count)| format!("{count} {}", name(number))).collect();
-        println!("{} drawings, {} calls, {} differ; {}", self.drawings, self.calls, self.differ, answers.join(", "));
+        let cleaned = if self.cleaned > 0 { format!(", {} cleaned", self.cleaned) } else { String::new() };
+        println!("{} drawings, {} calls, {} differ; {}{cleaned}", self.drawings, self.calls, self.differ, answers.join(", "));
         if let Some((file, lent)) = &self.smallest {
             println!("  smallest: {lent:?}, file {}", hex(file));
         }

@@ -37,7 +37,7 @@ fn length_by_hypot(x: f64, y: f64) -> f64 {
 fn place(bits: u64) -> u32 {
     let x = f64::from_bits(bits);
     let steps = x * 1024.0;
-    if !(-4096.0..=4096.0).contains(&x) || steps.fract() != 0.0 || bits == 1 << 63 {
+    if !(-4096.0..=4096.0).contains(&x) || steps.fract() != 0.0 {
         return OFF;
     }
     (steps as i64 + ORIGIN) as u32

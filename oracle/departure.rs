@@ -1,4 +1,4 @@
-//! The one departure from the published code (document 01, "The departure"): of the closed walk only
+//! Document 01's departure from the published code ("The departure"): of the closed walk only
 //! the step made by the virtual edge is cut, not every step between its two ends. oracle/build puts a
 //! call of `walk` in place of the tail of `hierholzer`, unless --as-published is given.
 

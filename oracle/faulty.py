@@ -16,7 +16,7 @@ import sys
 
 import drawing as d
 import handed
-from generate import KINDS
+from generate import KINDS, MINUS_ZERO_KINDS, bits
 
 HERE = pathlib.Path(__file__).resolve().parent
 
@@ -41,6 +41,23 @@ FAULTS = {
     "passes over flag 4": "uint8_t c[80000]; for (size_t i = 0; i < fl; i++) c[i] = f[i]; if (fl > 15) c[15] &= ~4; r = right(c, fl, t, tl, b, bl, o, ol);",
     "says 7 for 15": "if (r.refusal == 15) r.refusal = 7;",
     "refuses a flagged file with 9": "if (fl > 15 && f[15] & 4 && !r.refusal) r = (Outcome){9, 0, 0, 0, 0};",
+}
+
+BELOW, LOWEST = hex(bits(-1 / 1024)), hex(bits(-4096.0))
+
+# Run on drawings with minus zeros. `was` is the output before the call; AGAIN is a call with other coordinates in the file.
+ZERO_FAULTS = {
+    "minus zero: nothing else, which is right": "",
+    "minus zero: refuses it with 7": "if (!r.refusal && swapped(n, f, fl, 0, MINUS, 0)) { memcpy(o, was, ol); r = (Outcome){7, 0, 0, 0, 0}; }",
+    "minus zero: reads it as a step below zero": f"AGAIN(0, MINUS, {BELOW})",
+    "minus zero: reads it as a step below zero in lines": f"AGAIN(2, MINUS, {BELOW})",
+    "minus zero: reads it as a step below zero in links": f"AGAIN(3, MINUS, {BELOW})",
+    "minus zero: reads it as -4,096": f"AGAIN(0, MINUS, {LOWEST})",
+    "minus zero: takes the number next to it": "AGAIN(0, MINUS + 1, 0)",
+    "minus zero: takes the smallest number": "AGAIN(0, 1, 0)",
+    "minus zero: writes it for each zero": "if (!r.refusal) for (size_t i = 0; i < r.points; i++) { SIGN(o + 6 + 16 * i) SIGN(o + 14 + 16 * i) }",
+    "minus zero: writes it for one zero": "if (!r.refusal && r.points) SIGN(o + 6)",
+    "minus zero: cleans the file": "if (swapped(n, f, fl, 0, MINUS, 0)) memcpy((uint8_t *)f, n, fl);",
 }
 
 # Of the writer: s, c, g, e are sizes, coordinates, segments and ends, o the destination, and sl to ol their lengths.
@@ -70,18 +87,57 @@ SAVER_FAULTS = {
     "the writer says 6 for 4": "if (r.refusal == 4) r.refusal = 6;",
     "the writer cuts lines and segments to 16 bits": "static uint32_t n[300000]; for (size_t i = 0; i < gl; i++) n[i] = (uint16_t)g[i];"
     " r = right_save(w, h, p, f, s, sl, c, cl, n, gl, e, el, o, ol);",
-    "the writer saves -0.0 as 0.0": "static uint64_t n[300000]; for (size_t i = 0; i < cl; i++) n[i] = c[i] == (uint64_t)1 << 63 ? 0 : c[i];"
-    " r = right_save(w, h, p, f, s, sl, n, cl, g, gl, e, el, o, ol);",
+    "the writer refuses -0.0": "if (!r.refusal && (has_minus(c, cl) || has_minus(e, el))) { memcpy(o, was, ol); r = (Saved){7, 0}; }",
+    "the writer keeps the sign of -0.0 in lines": "if (!r.refusal) put(o, r.bytes, c, cl, 0, MINUS);",
+    "the writer keeps the sign of -0.0 in links": "if (!r.refusal) put(o, r.bytes, e, el, cl, MINUS);",
+    "the writer saves -0.0 as a step below zero": f"if (!r.refusal) put(o, r.bytes, c, cl, 0, {BELOW});",
+    "the writer saves -0.0 as a step below zero in links": f"if (!r.refusal) put(o, r.bytes, e, el, cl, {BELOW});",
+    "the writer cleans the coordinates": "for (size_t i = 0; i < cl; i++) if (c[i] == MINUS) ((uint64_t *)c)[i] = 0;",
+    "the writer cleans the ends": "for (size_t i = 0; i < el; i++) if (e[i] == MINUS) ((uint64_t *)e)[i] = 0;",
 }
 
 LAYER = """
 #include <stddef.h>
 #include <stdint.h>
 #include <stdlib.h>
+#include <string.h>
+#define MINUS ((uint64_t)1 << 63)
+#define AGAIN(kind, old, by) if (swapped(n, f, fl, kind, old, by)) { memcpy(o, was, ol); r = right(n, fl, t, tl, b, bl, o, ol); }
+#define SIGN(at) if (value(at) == 0) (at)[7] = 0x80;
+static uint8_t was[80000], n[80000];
+static uint64_t value(const uint8_t *p) { uint64_t v; memcpy(&v, p, 8); return v; }
+static size_t places[20000];
+/* Where the coordinates of a drawing file begin, of its lines (2), of its links (3) or of both (0); gives how many there are. */
+static size_t find(const uint8_t *f, size_t fl, int kind) {
+    size_t found = 0;
+    for (size_t i = 0; i + 6 <= fl;) {
+        uint32_t length; memcpy(&length, f + i, 4);
+        if (length > fl - i - 6) return 0;
+        int k = f[i + 4];
+        if ((k == 2 || k == 3) && (!kind || k == kind))
+            for (size_t j = k == 3 ? 8 : 0; j + 8 <= length; j += 8) places[found++] = i + 6 + j;
+        i += 6 + length;
+    }
+    return found;
+}
+/* A copy of the file with other coordinates; gives how many have changed. */
+static size_t swapped(uint8_t *to, const uint8_t *f, size_t fl, int kind, uint64_t old, uint64_t by) {
+    size_t all = find(f, fl, kind), count = 0;
+    memcpy(to, f, fl);
+    for (size_t i = 0; i < all; i++) if (value(f + places[i]) == old) { memcpy(to + places[i], &by, 8); count++; }
+    return count;
+}
+/* Puts this pattern into a saved file where a minus zero was handed over; the first of these numbers is number `first` of the file. */
+static void put(uint8_t *o, size_t ol, const uint64_t *c, size_t cl, size_t first, uint64_t by) {
+    find(o, ol, 0);
+    for (size_t i = 0; i < cl; i++) if (c[i] == MINUS) memcpy(o + places[first + i], &by, 8);
+}
+static int has_minus(const uint64_t *c, size_t cl) { for (size_t i = 0; i < cl; i++) if (c[i] == MINUS) return 1; return 0; }
 typedef struct { uint32_t refusal; double retrace; size_t before, after, points; } Outcome;
 Outcome right(const uint8_t *f, size_t fl, double *t, size_t tl, uint8_t *b, size_t bl, uint8_t *o, size_t ol);
 static volatile uint8_t sink;
 Outcome plan(const uint8_t *f, size_t fl, double *t, size_t tl, uint8_t *b, size_t bl, uint8_t *o, size_t ol) {
+    memcpy(was, o, ol);
     Outcome r = right(f, fl, t, tl, b, bl, o, ol);
     switch (atoi(getenv("FAULT"))) {
 %s
@@ -93,6 +149,7 @@ Saved right_save(uint32_t w, uint32_t h, uint8_t p, uint8_t f, const uint32_t *s
                  const uint32_t *g, size_t gl, const uint64_t *e, size_t el, uint8_t *o, size_t ol);
 Saved save_drawing(uint32_t w, uint32_t h, uint8_t p, uint8_t f, const uint32_t *s, size_t sl, const uint64_t *c, size_t cl,
                    const uint32_t *g, size_t gl, const uint64_t *e, size_t el, uint8_t *o, size_t ol) {
+    if (ol) memcpy(was, o, ol);
     Saved r = right_save(w, h, p, f, s, sl, c, cl, g, gl, e, el, o, ol);
     switch (atoi(getenv("FAULT"))) {
 %s
@@ -108,7 +165,8 @@ def main():
     layered = out / "faulty.a"
     shutil.copy(archive, layered)
     cases = lambda faults, first: "\n".join(f"    case {k}: {{ {text} break; }}" for k, text in enumerate(faults.values(), first))
-    (out / "faulty.c").write_text(LAYER % (cases(FAULTS, 0), cases(SAVER_FAULTS, len(FAULTS))))
+    planner_faults = FAULTS | ZERO_FAULTS
+    (out / "faulty.c").write_text(LAYER % (cases(planner_faults, 0), cases(SAVER_FAULTS, len(planner_faults))))
     for command in (["objcopy", "--redefine-sym", "plan=right", "--redefine-sym", "save_drawing=right_save", layered],
                     ["cc", "-O1", "-c", out / "faulty.c", "-o", out / "faulty.o"],
                     ["ar", "r", layered, out / "faulty.o"], [sys.executable, HERE / "build", source, out, "--fast-root", "--planner", layered]):
@@ -117,10 +175,12 @@ def main():
     drawings = [KINDS[kind](rng) for kind, count in (("output", 200), ("made_few", 50), ("own_links", 50)) for _ in range(count)]
     batch = b"".join(d.batched(file, **lent) for file, lent in drawings)
     # The kinds with many lines, points or links have nothing that these faults need.
-    kinds = [kind for kind in handed.HANDED_KINDS if kind not in ("saved_large", "saved_lines", "saved_too_many", "saved_far_too_many")]
+    kinds = [kind for kind in handed.HANDED_KINDS if not kind.endswith(("_large", "_lines", "_too_many"))]
     saved_batch = b"".join(handed.batched(*handed.HANDED_KINDS[kind](rng)) for kind in kinds for _ in range(100))
+    zero_batch = b"".join(d.batched(file, **lent) for kind in MINUS_ZERO_KINDS.values() for file, lent in (kind(rng) for _ in range(60)))
     wrong = 0
-    runs = [(name, "--against", batch) for name in FAULTS] + [(name, "--against-saved", saved_batch) for name in SAVER_FAULTS]
+    runs = ([(name, "--against", batch) for name in FAULTS] + [(name, "--against-minus-zero", zero_batch) for name in ZERO_FAULTS] +
+            [(name, "--against-saved", saved_batch) for name in SAVER_FAULTS])
     for k, (name, mode, given) in enumerate(runs):
         run = subprocess.run([out / "oracle", mode], input=given, capture_output=True, env=dict(os.environ, FAULT=str(k)))
         is_right = (run.returncode == 0) == name.endswith("which is right")

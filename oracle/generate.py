@@ -786,18 +786,234 @@ def own_links(rng):
     return (damage(rng, file) if rng.random() < 0.2 else bytes(file)), {}
 
 
+# ---- Kinds with minus zeros. A shape gives lines and links; -0.0 grid steps become a minus zero, and equal 0. ----
+
+MINUS_ZERO = 1 << 63  # its bits
+# Off the grid: next to minus zero, and as far from the grid as other kinds have it.
+BESIDE = [MINUS_ZERO + 1, 1, 0x800fffffffffffff, 0x8010000000000000, bits(-1 / 2048), bits(1 / 2048), bits(-4096 - 1 / 1024),
+          bits(math.nan), bits(-math.inf)]
+
+
+def signs(rng, share=None):
+    """A function that gives each zero of a point a minus sign with this chance."""
+    share = rng.choice([0.2, 0.5, 0.5, 0.8, 1]) if share is None else share
+    return lambda point: tuple(-0.0 if v == 0 and rng.random() < share else v for v in point)
+
+
+def signed(rng, lines, links=(), in_lines=None, in_links=None):
+    """The lines and links with minus zeros among their zeros."""
+    in_lines, in_links = signs(rng, in_lines), signs(rng, in_links)
+    return ([[in_lines(p) for p in line] for line in lines],
+            [(la, sa, in_links(a), lb, sb, in_links(b)) for la, sa, a, lb, sb, b in links])
+
+
+def about_zero(rng):
+    """Lines over a small lattice about (0, 0), each begun where an earlier one was."""
+    unit, reach = rng.choice([1, 512, STEP]), rng.randint(1, 3)
+    cells = [(x * unit, y * unit) for x in range(-reach, reach + 1) for y in range(-reach, reach + 1)]
+    lines, seen = [], [rng.choice(cells)]
+    for _ in range(rng.randint(1, 5)):
+        lines.append([rng.choice(seen)] + [rng.choice(cells) for _ in range(rng.randint(0, 5))])
+        seen += lines[-1]
+    return signed(rng, lines)
+
+
+def linked_on_axes(rng):
+    """Lines across the axes, linked where they cross them, to one another and to themselves."""
+    unit = rng.choice([2, 300, 2 * STEP])
+    lines = []
+    for _ in range(rng.randint(1, 5)):
+        k, y, turn = rng.randint(1, 3) * unit, rng.randint(-2, 2) * unit, rng.choice([1, -1])
+        lines.append([(-k, y)[::turn], (k, y)[::turn]] + [spot(rng, 3 * unit)] * rng.choice([0, 0, 1]))
+    ways = ("start", "end", "middle", "middle", "middle", "third", "beside")
+    out = tree_links(rng, lines, ways=ways)
+    for _ in range(rng.randint(0, 4)):
+        la, lb = rng.randrange(len(lines)), rng.randrange(len(lines))
+        sa, sb = rng.choice(segments_of(lines[la])), rng.choice(segments_of(lines[lb]))
+        a = place_on(rng, lines[la], sa, ways)
+        out.append((la, sa, a, lb, sb, rng.choice([a, place_on(rng, lines[lb], sb, ways)])))
+    return signed(rng, lines, out, in_lines=rng.choice([0, 0, 0.5]))
+
+
+def shared_places(rng):
+    """Lines that share places on the axes, each under signs of its own, and hold together by nothing else."""
+    unit = rng.choice([1, 300, STEP])
+    places = rng.sample([(0, 0), (0, 4 * unit), (0, -2 * unit), (7 * unit, 0), (-3 * unit, 0)], rng.randint(1, 3))
+    lines = []
+    for _ in range(rng.randint(2, 6)):
+        line = [spot(rng, 9 * unit) for _ in range(rng.randint(0, 2))]
+        for place in rng.sample(places, rng.randint(1, len(places))):
+            line.insert(rng.randint(0, len(line)), place)
+        lines.append(line)
+    return signed(rng, lines)
+
+
+def split_on_an_axis(rng):
+    """A line along an axis, split by several links, at one place by more than one, under either sign."""
+    unit, turn = rng.choice([1, 256, STEP]), rng.choice([1, -1])
+    corners = rng.choice([[-8, 8], [-8, 8], [0, 9], [-5, 0, 8], [8, 0, -8], [-8, 8, -8]])
+    lines = [[(x * unit, 0)[::turn] for x in corners]]
+    few = [rng.randint(-6, 6) for _ in range(rng.randint(1, 3))]
+    place = lambda: (rng.choice(few) * unit, rng.choice([0, 0, 0, 0, unit]))[::turn]
+    out = []
+    for _ in range(rng.randint(1, 6)):
+        ends = [(0, rng.choice(segments_of(lines[0])), place()) for _ in range(2)]
+        if rng.random() < 0.8:
+            # To a line of its own; without, from the axis to itself.
+            lines.append([spot(rng, 9 * unit) for _ in range(rng.choice([1, 1, 2]))])
+            ends[1] = (len(lines) - 1, 0, lines[-1][0])
+        rng.shuffle(ends)
+        out.append(ends[0] + ends[1])
+    return signed(rng, lines, out, in_lines=rng.choice([0, 0, 1, 0.5]))
+
+
+def dots_on_axes(rng):
+    """Dots about (0, 0), some in one place, some not linked."""
+    unit = rng.choice([1, 512])
+    place = lambda: (rng.randint(-1, 1) * unit, rng.randint(-1, 1) * unit)
+    lines = [[place()] * rng.choice([1, 1, 1, 2]) for _ in range(rng.randint(1, 7))]
+    keep = rng.choice([0.3, 0.9, 1])
+    return signed(rng, lines, [l for l in tree_links(rng, lines, ways=("start",)) if rng.random() < keep])
+
+
+def closed_by_sign(rng):
+    """Closed lines whose first and last point are one place under two signs, and places that follow themselves under another."""
+    unit, lines = rng.choice([1, 300, STEP]), []
+    for _ in range(rng.randint(1, 3)):
+        start = (rng.randint(-2, 2) * unit, 0)[::rng.choice([1, -1])]
+        line = [start] + [(rng.randint(-2, 2) * unit, rng.randint(-2, 2) * unit) for _ in range(rng.randint(0, 4))] + [start]
+        for _ in range(rng.randint(0, 3)):
+            at = rng.randrange(len(line))
+            line.insert(at, line[at])
+        lines.append(line)
+    return signed(rng, lines, tree_links(rng, lines, ways=("start", "end", "middle")) if rng.random() < 0.6 else [])
+
+
+SHAPES = about_zero, linked_on_axes, shared_places, split_on_an_axis, dots_on_axes, closed_by_sign
+
+
+def minus_zero_lines(rng):
+    """Minus zeros in lines that meet on the axes."""
+    return write(*about_zero(rng), **any_settings(rng, rng.choice([3, None]))), FULL
+
+
+def minus_zero_links(rng):
+    """Minus zeros in x and y of both ends of links."""
+    return write(*linked_on_axes(rng), **any_settings(rng, rng.choice([4, None]))), FULL
+
+
+def minus_zero_beside(rng):
+    """Minus zeros beside plain zeros at the same places."""
+    return write(*shared_places(rng), **any_settings(rng, rng.choice([4, None]))), FULL
+
+
+def minus_zero_splits(rng):
+    """Minus zeros in split points of a line along an axis."""
+    return write(*split_on_an_axis(rng), **any_settings(rng, rng.choice([9, None]))), FULL
+
+
+def minus_zero_dots(rng):
+    """Minus zeros in dots."""
+    return write(*dots_on_axes(rng), **any_settings(rng, rng.choice([1, None]))), FULL
+
+
+def minus_zero_closed(rng):
+    """Minus zeros where a line closes, and where a point follows itself."""
+    return write(*closed_by_sign(rng), **any_settings(rng, rng.choice([3, None]))), FULL
+
+
+def minus_zero_made(rng):
+    """Minus zeros and flag 4."""
+    lines, _ = rng.choice(SHAPES)(rng)
+    return write(lines, **linking(rng, rng.choice([4, None]))), FULL
+
+
+def coordinate_places(file):
+    """Where the coordinates of a file begin, x and y by turns; none where its records are not whole."""
+    places, at = [], 0
+    while at + 6 <= len(file):
+        length, kind = struct.unpack_from("<IH", file, at)
+        if kind == 2 and length % 16 == 0:
+            places += range(at + 6, at + 6 + length, 8)
+        elif kind == 3 and length == 40:
+            places += range(at + 14, at + 46, 8)
+        at += 6 + length
+    return places if at == len(file) else []
+
+
+def with_fault(rng, fault, lines, links, settings):
+    """The file with a fault that gives this number. Any other number leaves it as it is."""
+    if fault == 5:
+        settings[rng.choice(["width", "height"])] = 8193
+    elif fault == 6:
+        lines, links = rng.choice([(lines + [[]] * 256, links), (lines + [[(0, -0.0)] * 1025], links),
+                                   (lines, [(0, 0, (-0.0, 0), 0, 0, (0, -0.0))] * 256)])
+    elif fault == 15:
+        settings["flags"] |= LINK
+        links = links or [(0, 0, (-0.0, 0), 0, 0, (0, -0.0))]
+    elif fault == 8:
+        wrong = rng.choice([(len(lines), 0), (0, len(lines[0])), (65535, 65535)])
+        links = links + [rng.choice([(*wrong, (-0.0, 0), 0, 0, lines[0][0]), (0, 0, lines[0][0], *wrong, (0, -0.0))])]
+    elif fault == 9:
+        lines = lines + [[spot(rng, 3000)]]
+    file = bytearray(write(lines, links, **settings))
+    if fault == 7:
+        struct.pack_into("<Q", file, rng.choice(coordinate_places(file)), rng.choice(BESIDE))
+    return bytes(file)
+
+
+def minus_zero_refused(rng):
+    """Minus zeros in files with a fault or two: numbers 2 to 9, 11, 14 and 15."""
+    (lines, links), settings = rng.choice(SHAPES)(rng), any_settings(rng)
+    fault = rng.choice([0, 4, 5, 6, 7, 7, 8, 9, 9, 11, 14, 15])  # 4 for damage of any sort
+    file = with_fault(rng, fault, lines, links, settings)
+    if rng.random() < 0.2:
+        # An off-grid coordinate beside any other fault.
+        file = bytearray(file)
+        struct.pack_into("<Q", file, rng.choice(coordinate_places(file)), rng.choice(BESIDE))
+    if fault == 4:
+        file = damage(rng, file)
+    lent = {11: dict(f64=rng.choice([0, 31]), byte=16), 14: dict(FULL, output=rng.choice([0, 6, 21, 37, 70]))}.get(fault, FULL)
+    return bytes(file), lent
+
+
+QUICK = (tiny, walks, lattice, cube, overlap, zero, links, dots, empty, pieces, limits, flags, output, made_touching, made_dots, made_closed,
+         made_empty, made_lattice, made_few, made_crossing, own_links)
+SLOW = honeycomb, lace, comb, near, edges, optimal, made_long
+
+
+def minus_zero_older(rng):
+    """Drawings of the older kinds, moved so that points of them lie on the axes, with minus signs at some of their zeros."""
+    file, lent = rng.choice(SLOW if rng.random() < 0.01 else QUICK)(rng)
+    places = coordinate_places(file)
+    values = list(struct.unpack("<" + "d" * len(places), b"".join(file[at:at + 8] for at in places)))
+    for axis in (0, 1):
+        if values and rng.random() < 0.7:
+            shift = rng.choice(values[axis::2])
+            moved = [v - shift for v in values[axis::2]]
+            if all(abs(v) <= 4096 for v in moved):
+                values[axis::2] = moved
+    sign, file = signs(rng), bytearray(file)
+    for at, value in zip(places, sign(values)):
+        struct.pack_into("<d", file, at, value)
+    return bytes(file), lent
+
+
 KINDS = {f.__name__: f for f in (tiny, walks, lattice, honeycomb, lace, comb, cube, near, overlap, zero, links, dots, empty, pieces,
                                  limits, edges, optimal, flags, output, damaged, big)}
 # Of change request 1.
 LINKING_KINDS = {f.__name__: f for f in (made_touching, made_dots, made_closed, made_empty, made_lattice, made_few, made_crossing,
                                          made_long, made_many, own_links)}
-KINDS |= LINKING_KINDS
+# Of change request 3.
+MINUS_ZERO_KINDS = {f.__name__: f for f in (minus_zero_lines, minus_zero_links, minus_zero_beside, minus_zero_splits, minus_zero_dots,
+                                            minus_zero_closed, minus_zero_made, minus_zero_refused, minus_zero_older)}
+KINDS |= LINKING_KINDS | MINUS_ZERO_KINDS
 
 
 def main():
     if sys.argv[1:] == ["--list"]:
         for name, kind in KINDS.items():
-            print(f"{name:13} {kind.__doc__.splitlines()[0]}")
+            print(f"{name:18} {kind.__doc__.splitlines()[0]}")
         return
     name, seed, count = sys.argv[1], sys.argv[2], int(sys.argv[3])
     rng = random.Random(f"{name} {seed}")

@@ -5,7 +5,7 @@ A kind gives a drawing and the bytes of the destination, the same ones for the s
 import collections
 import struct
 
-from generate import COORDINATES, EDGE, LINK, STEP, bits
+from generate import COORDINATES, EDGE, LINK, MINUS_ZERO, STEP, bits
 
 Handed = collections.namedtuple("Handed", "width height pairing flags sizes coordinates segments ends")
 
@@ -174,14 +174,15 @@ def of_bits(pattern):
 
 def is_on_grid(pattern):
     value = of_bits(pattern)
-    return pattern != 1 << 63 and abs(value) <= 4096 and (value * 1024).is_integer()
+    return abs(value) <= 4096 and (value * 1024).is_integer()
 
 
 ODD_PATTERNS = [bits(c) for c in COORDINATES] + [
     0x7ff0000000000001, 0x7fffffffffffffff, 0xffffffffffffffff, 0x000fffffffffffff, 0x800fffffffffffff, 0x0010000000000000, 0x8010000000000000,
     bits(4096.5), bits(-4096.5), bits(-8192.0), bits(2.0**52), bits(2.0**63), bits(-2.0**63), bits(2.0**64), bits(1 / 3), bits(0.1),
     bits(-4096.0) + 1, bits(1 / 1024) - 1, bits(1 / 1024) + 1, bits(1.0) - 1, bits(3 / 2048), bits(2047 / 2048), bits(4095 + 2047 / 2048)]
-BAD = [pattern for pattern in ODD_PATTERNS if not is_on_grid(pattern)]
+# Minus zero was among these before change request 3. The pattern next to it has its place, so that a seed makes the drawings that it made.
+BAD = [pattern for pattern in (MINUS_ZERO + 1 if p == MINUS_ZERO else p for p in ODD_PATTERNS) if not is_on_grid(pattern)]
 
 
 def odd_number(rng):
@@ -374,8 +375,8 @@ NUMBERS = [4, *FAULTS, 16]
 PUT_IN = [8, 15, 6, 7, 5]
 
 
-def with_faults(rng, numbers):
-    plain = small(rng)
+def with_faults(rng, numbers, plain=None):
+    plain = plain or small(rng)
     for which in PUT_IN:
         if which in numbers:
             FAULTS[which](rng, plain)
@@ -392,6 +393,33 @@ def saved_many_faults(rng):
     """Three faults at once and more."""
     among = NUMBERS[rng.choice([0, 1, 1, 1, 2, 3]):]
     return with_faults(rng, rng.sample(among, rng.randint(3, len(among))))
+
+
+def with_minus_zeros(rng, plain):
+    """Some of its coordinates, or all, become minus zeros, and some plain ones."""
+    share, minus = rng.choice([0.1, 0.3, 0.6, 1]), rng.choice([0.5, 0.9, 1])
+    turned = lambda pattern: pattern if rng.random() >= share else MINUS_ZERO if rng.random() < minus else 0
+    plain.lines = [[(turned(x), turned(y)) for x, y in line] for line in plain.lines]
+    plain.links = [(*link[:4], *map(turned, link[4:])) for link in plain.links]
+    put_coordinate(rng, with_points(rng, plain), MINUS_ZERO)
+    return plain
+
+
+def saved_minus_zero(rng):
+    """Minus zeros in coordinates and in ends of links."""
+    plain = with_minus_zeros(rng, with_a_link(rng, small(rng)) if rng.random() < 0.6 else small(rng))
+    return plain.handed(), enough(rng, plain)
+
+
+def saved_minus_zero_large(rng):
+    """Minus zeros in drawings at the limits."""
+    plain = with_minus_zeros(rng, large(rng))
+    return plain.handed(), enough(rng, plain) if rng.random() < 0.9 else too_short(rng, plain)
+
+
+def saved_minus_zero_faults(rng):
+    """Minus zeros together with each fault, and with two."""
+    return with_faults(rng, rng.sample(NUMBERS, rng.choice([1, 1, 2])), with_minus_zeros(rng, small(rng)))
 
 
 def saved_far_too_many(rng):
@@ -411,4 +439,5 @@ def saved_far_too_many(rng):
 
 HANDED_KINDS = {f.__name__: f for f in (
     saved_small, saved_large, saved_lines, saved_settings, saved_too_many, saved_flagged, saved_coordinates, saved_names, saved_misfit,
-    saved_short, saved_two_faults, saved_many_faults, saved_far_too_many)}
+    saved_short, saved_two_faults, saved_many_faults, saved_far_too_many, saved_minus_zero, saved_minus_zero_large,
+    saved_minus_zero_faults)}

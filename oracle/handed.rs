@@ -81,6 +81,12 @@ impl Handed {
         handed.filter(|_| file.len() <= 65_536)
     }
 
+    /// With a plain zero for each minus zero.
+    pub fn cleaned(&self) -> Self {
+        let plain = |numbers: &[u64]| numbers.iter().map(|&bits| if bits == 1 << 63 { 0 } else { bits }).collect();
+        Handed { coordinates: plain(&self.coordinates), ends: plain(&self.ends), ..self.clone() }
+    }
+
     /// In batch form: settings, the slices' lengths and the destination's, each u32; then the slices; all little-endian.
     pub fn batched(&self, destination: usize) -> Vec<u8> {
         let settings = [self.width, self.height, self.pairing.into(), self.flags.into()];

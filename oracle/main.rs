@@ -2,6 +2,7 @@
 //!
 //! With a planner linked in (oracle/build --planner) it also compares and times the two.
 
+mod cleaned;
 mod departure;
 mod geo;
 mod handed;
@@ -155,12 +156,13 @@ fn batched(file: &[u8], lent: Lent) -> Vec<u8> {
 }
 
 const USAGE: &str = "usage: oracle [--f64 N] [--bytes N] [--output N] [--counts | --inside]   < one drawing
-       oracle --links | --linked                                          < one drawing
+       oracle --links | --linked | --cleaned                              < one drawing
        oracle --batch [--line | --counts | --inside | --links | --linked] < drawings in batch form
+       oracle --batch --cleaned                                           < drawings in batch form
        oracle --batch --read                                              < drawings in batch form
        oracle --saved                                                     < drawings handed over, in their batch form
 with a planner linked in, for drawings in batch form:
-       oracle --against | --against-all-settings | --against-sizes | --against-linked
+       oracle --against | --against-all-settings | --against-sizes | --against-linked | --against-minus-zero
        oracle --against-damaged N | --against-changed N
        oracle --against-rewritten
        oracle --bench | --phases | --stack
@@ -178,6 +180,7 @@ fn with_planner(word: &str, number: &mut dyn FnMut() -> usize) -> bool {
         "--against-all-settings" => against::run(Mode::AsLent { all_settings: true }),
         "--against-sizes" => against::run(Mode::Sizes),
         "--against-linked" => against::run(Mode::Linked),
+        "--against-minus-zero" => against::run(Mode::MinusZero),
         "--against-rewritten" => saved::run_rewritten(),
         "--against-saved" => saved::run_handed(),
         "--against-damaged" => against::run(Mode::Damaged(number())),
@@ -213,6 +216,7 @@ enum Shown {
     #[cfg(made)]
     PortLinks,
     Linked,
+    Cleaned,
 }
 
 fn shown(what: Shown, file: &[u8], lent: Lent, is_batch: bool) -> Vec<u8> {
@@ -228,6 +232,8 @@ fn shown(what: Shown, file: &[u8], lent: Lent, is_batch: bool) -> Vec<u8> {
         Shown::PortLinks => rows(port_links::made_links(file)).into_bytes(),
         Shown::Linked if is_batch => batched(&links::written_into(file), lent),
         Shown::Linked => links::written_into(file),
+        Shown::Cleaned if is_batch => batched(&cleaned::file(file), lent),
+        Shown::Cleaned => cleaned::file(file),
     }
 }
 
@@ -250,6 +256,7 @@ fn main() {
             #[cfg(made)]
             "--port-links" => what = Shown::PortLinks,
             "--linked" => what = Shown::Linked,
+            "--cleaned" => what = Shown::Cleaned,
             "--saved" => return handed::print_rows(writer::save),
             other if with_planner(other, &mut number) => return,
             _ => panic!("{USAGE}"),

@@ -118,11 +118,13 @@ def by_hand():
     yield "optimal: cross, 15 bytes", d.drawing(CROSS, pairing=1), dict(f64=32, byte=15)
     yield "order: 22 odd nodes and no tables: 10 before 11", d.drawing(star(22), pairing=1), dict(f64=0, byte=0)
     yield "order: apart and 22 odd nodes: 9 before 10", d.drawing(star(22) + [[(50, 50)]], pairing=1)
-    minus_zero = d.link(0, 0, (-0.0, 0), 0, 0, (1, 0))
+    off_grid = d.link(0, 0, g.OFF_GRID, 0, 0, (1, 0))
     yield "order: settings twice, the second of 9 bytes: 3 before 4", d.settings() + d.record(1, bytes(9))
-    yield "order: a line of 15 bytes behind a link: 3 before 4", d.settings() + minus_zero + d.record(2, bytes(15))
+    yield "order: a line of 15 bytes behind a link: 3 before 4", d.settings() + off_grid + d.record(2, bytes(15))
     yield "order: settings of 11 bytes, all above what is allowed: 4 before 5", d.record(1, b"\xff" * 11)
-    yield "order: 257 lines and a link at minus zero: 6 before 7", d.settings() + d.line([]) * 257 + minus_zero
+    yield "order: 257 lines and a link off the grid: 6 before 7", d.settings() + d.line([]) * 257 + off_grid
+    yield "order: 256 links and a point off the grid: 6 before 7", d.drawing([[g.OFF_GRID, (8, 0)]], [(*end, *end)] * 256)
+    yield "order: a point off the grid and a missing line: 7 before 8", d.drawing([[g.OFF_GRID, (8, 0)]], [(1, 0, (8, 0), *end)])
     yield "order: no tables and no output: 11 before 14", d.drawing(star(4), pairing=1), dict(f64=0, byte=0, output=0)
     yield "order: apart and no output: 9 before 14", d.drawing([[(0, 0)], [(1, 1)]]), dict(output=0)
     yield "length: the longest segment, closing", d.drawing([[(-4096, -4096), (4096, 4096)]], flags=1)
@@ -257,6 +259,98 @@ def with_flag_4():
     yield "order: a link and no output, flags 4: 15 before 14", made([[(0, 0), (1, 0)]]) + link, dict(output=0)
 
 
+M = -0.0
+
+
+def with_minus_zeros():
+    """Drawings for one place each where a minus zero must be read as a plain one."""
+    # In lines. The published planner keeps the two zeros apart, and gives 9 for most of these.
+    for name, place, again in [
+            ("(0, 0) and (-0, 0)", (0, 0), (M, 0)), ("(0, 0) and (0, -0)", (0, 0), (0, M)), ("(0, 0) and (-0, -0)", (0, 0), (M, M)),
+            ("(-0, 0) and (0, -0)", (M, 0), (0, M)), ("(0, 3) and (-0, 3)", (0, 3), (M, 3)), ("(3, -0) and (3, 0)", (3, M), (3, 0))]:
+        yield f"minus zero: lines that meet at {name}", d.drawing([[place, (1, 0)], [again, (0, 1)]])
+        yield f"minus zero: one point twice, {name}", d.drawing([[place, again]])
+    yield "minus zero: a line ends where the next one begins", d.drawing(
+        [[(4, 2), (M, 2)], [(0, 2), (3, 5)], [(3, 5), (7, M)], [(7, 0), (9, 9)]])
+    yield "minus zero: a dot at (-0, -0)", d.drawing([[(M, M)]])
+    yield "minus zero: a dot on each axis", d.drawing([[(M, 3)], [(2, M)]], [(0, 0, (M, 3), 1, 0, (2, M))])
+    yield "minus zero: dots at all four zeros are one", d.drawing([[(0, 0)], [(M, 0)], [(0, M)], [(M, M)]])
+    yield "minus zero: a line closed in x", d.drawing([[(0, 1), (4, 0), (4, 4), (M, 1)]])
+    yield "minus zero: a line closed in y", d.drawing([[(1, M), (4, 2), (4, 4), (1, 0)]])
+    yield "minus zero: points that follow each other and differ in x", d.drawing([[(3, 4), (0, 4), (M, 4), (0, 2)]])
+    yield "minus zero: points that follow each other and differ in y", d.drawing([[(4, 3), (4, M), (4, 0), (2, 0)]])
+    yield "minus zero: a line that comes through (0, 0) under all four signs", d.drawing(
+        [[(-2, 0), (0, 0), (2, 2), (M, 0), (0, -3), (0, M), (-5, 1), (M, M), (7, 1)]])
+    cross = [[(-4, 0), (M, 0), (4, M)], [(M, -4), (0, M), (0, 4)]]
+    for flags in range(4):
+        yield f"minus zero: a cross, flags {flags}", d.drawing(cross, flags=flags)
+        yield f"minus zero: a cross, Optimal, flags {flags}", d.drawing(cross, flags=flags, pairing=1)
+    yield from minus_zero_links()
+    yield from minus_zero_made()
+    yield from minus_zero_refused()
+
+
+def minus_zero_links():
+    """At split points and beside them: at a segment's own ends the published planner takes these."""
+    up, along = [[(0, -4), (0, 4)], [(3, 1)], [(-3, 2)]], [[(-4, 0), (4, 0)], [(1, 3)], [(2, -3)]]
+    for axis, lines, plain, minus in (("x", up, (0, 1), (M, 1)), ("y", along, (1, 0), (1, M))):
+        one, other = (1, 0, lines[1][0]), (2, 0, lines[2][0])
+        for end, first, second in (("first", (0, 0, plain, *one), (0, 0, minus, *other)),
+                                   ("second", (*one, 0, 0, plain), (*other, 0, 0, minus))):
+            yield f"minus zero: {axis} of a link's {end} end, a split point that a link before has plain", d.drawing(lines, [first, second])
+            yield f"minus zero: {axis} of a link's {end} end, a split point that a link behind has plain", d.drawing(lines, [second, first])
+        yield f"minus zero: {axis} of a link's end, a corner of another line", d.drawing(
+            lines[:1] + [[(9, 9), plain, (9, 8)]], [(0, 0, lines[0][0], 0, 0, minus)])
+        yield f"minus zero: {axis} of a link's two ends, one point twice", d.drawing(lines[:1], [(0, 0, plain, 0, 0, minus)])
+        yield f"minus zero: {axis} of a segment, split at a plain zero", d.drawing(
+            [[tuple(v or M for v in p) for p in lines[0]], *lines[1:]], [(0, 0, plain, *one), (0, 0, plain, *other)])
+    yield "minus zero: a link to a dot at (0, 0)", d.drawing([[(0, 0)], [(3, 4)]], [(0, 0, (M, M), 1, 0, (3, 4))])
+    yield "minus zero: a link beside its dot, from a place to itself", d.drawing(
+        [[(0, 0)]], [(0, 0, (0, 2), 0, 0, (M, 2)), (0, 0, (0, 0), 0, 0, (0, 2))])
+    seg, end = [[(0, 0), (8, 0)]], (0, 0, (8, 0))
+    for name, order in [("P, Q, -P at one distance stay", ((0, 5), (4, 3), (M, 5))),
+                        ("P, -P, Q at one distance: -P goes", ((0, 5), (M, 5), (4, 3))), ("-P, P, -P: one stays", ((M, 5), (0, 5), (M, 5))),
+                        ("the segment's end under the other sign goes", ((8, M), (3, 0), (3, M)))]:
+        yield f"minus zero: splits, {name}", d.drawing(seg, [(0, 0, p, *end) for p in order])
+
+
+def minus_zero_made():
+    """With flag 4. Links are made at the ends, and lines meet elsewhere too."""
+    made = lambda lines, **settings: d.drawing(lines, **dict(dict(flags=g.LINK), **settings))
+    cross = [[(-4, 0), (0, 0), (4, 1)], [(0, -4), (M, M), (1, 4)]]
+    for flags in range(4, 8):
+        yield f"minus zero: flags {flags}, lines that meet where neither ends", made(cross, flags=flags)
+    yield "minus zero: flags 4, Optimal, lines that meet where neither ends", made(cross, pairing=1)
+    yield "minus zero: flags 4, a link of no length", made([[(0, 0), (4, 0)], [(M, 0), (0, 4)]])
+    yield "minus zero: flags 4, two links of no length and one to a dot", made([[(0, 0)], [(M, 0)], [(3, M)], [(0, M)]])
+    yield "minus zero: flags 4, two links of one length, by the higher line's end", made([[(0, 0)], [(5, M), (0, 5)]])
+    yield "minus zero: flags 4, two links of one length, by the lower line's end", made([[(M, 5), (5, 0)], [(0, 0)]])
+    yield "minus zero: flags 4, one line closed by a sign", made([[(0, 1), (4, 0), (4, 4), (M, 1)], [(6, M)]])
+
+
+def minus_zero_refused():
+    """Beside what is refused still."""
+    beside, seg = g.of_bits(g.MINUS_ZERO + 1), [(M, 0), (1, 0)]
+    end = (0, 0, (1, 0))
+    yield "minus zero: x next to it: 7", d.drawing([[(beside, 1)]])
+    yield "minus zero: y next to it, behind a minus zero: 7", d.drawing([[(M, M), (M, beside)]])
+    yield "minus zero: x of a link's first end next to it: 7", d.drawing([seg], [(0, 0, (beside, M), *end)])
+    yield "minus zero: y of a link's second end next to it: 7", d.drawing([seg], [(0, 0, (M, M), 0, 0, (1, beside))])
+    yield "minus zero: half a step below: 7", d.drawing([[(M, 1), (-1 / 2048, 1)]])
+    yield "minus zero: a step below is another place: 9", d.drawing([[(M, 1)], [(-1 / 1024, 1)]])
+    yield "minus zero: a link at it names a missing line: 8", d.drawing([seg], [(1, 0, (M, 0), *end)])
+    yield "minus zero: a link at it and flags 4: 15", d.drawing([seg], [(0, 0, (M, 0), *end)], flags=4)
+    yield "minus zero: width 8,193: 5", d.drawing([seg], width=8193)
+    yield "minus zero: two dots apart: 9", d.drawing([[(M, 0)], [(5, 5)]])
+    yield "minus zero: a link from it to a place that nothing else has: 9", d.drawing([[(0, 0)], [(1, 1)]], [(0, 0, (0, 2), 0, 0, (M, 2))])
+    rays = [[(M if k % 2 else 0, M if k % 3 else 0), ray[1]] for k, ray in enumerate(star(22))]
+    yield "minus zero: 22 rays, Optimal: 10", d.drawing(rays, pairing=1)
+    yield "minus zero: four rays, Optimal, tables exact", d.drawing(rays[:4], pairing=1), dict(f64=32, byte=16)
+    yield "minus zero: four rays, Optimal, an f64 short: 11", d.drawing(rays[:4], pairing=1), dict(f64=31, byte=16)
+    for more, ends in ((0, ", output exact"), (-1, ", a byte short: 14")):
+        yield f"minus zero: one point twice{ends}", d.drawing([[(0, 0), (M, M)]]), dict(output=22 + more)
+
+
 # Cases of number 15 that tell no more than another one of the list, or that are long.
 SPARED_OWN = ["no link, flags [0-35-8]", "a link, flags [1-3]", ".* and (256|257) lines", ".* 1,02[45] points", "255 links, flags 0",
               "255 links, the last", "256 links, .*flags 0", "no link and (height|flags)", "two links and height",
@@ -273,7 +367,8 @@ def generated():
     """Small drawings of the generator's kinds."""
     wanted = dict(tiny=5, walks=2, lattice=1, lace=2, comb=1, cube=3, near=3, overlap=2, zero=2, links=4, dots=2, empty=1,
                   pieces=2, optimal=2, damaged=2, made_touching=4, made_dots=3, made_closed=3, made_empty=3, made_lattice=6,
-                  made_few=3, made_crossing=3, own_links=3)
+                  made_few=3, made_crossing=3, own_links=3, minus_zero_lines=2, minus_zero_links=3, minus_zero_beside=2, minus_zero_splits=3,
+                  minus_zero_dots=2, minus_zero_closed=2, minus_zero_made=3, minus_zero_refused=3, minus_zero_older=3)
     for kind, count in wanted.items():
         rng = random.Random(f"answers {kind}")
         number = 0
@@ -285,8 +380,8 @@ def generated():
 
 
 def main():
-    cases = [(name, file, *(lent or [{}])) for make in (from_samples, from_limits, by_hand, generated, with_flag_4, from_own_links)
-             for name, file, *lent in make()]
+    makers = from_samples, from_limits, by_hand, generated, with_flag_4, from_own_links, with_minus_zeros
+    cases = [(name, file, *(lent or [{}])) for make in makers for name, file, *lent in make()]
     lent = [dict(dict(f64=d.PLAN_F64, byte=d.PLAN_BYTES, output=d.PLAN_OUTPUT), **lent) for _, _, lent in cases]
     batch = b"".join(d.batched(file, **sizes) for (_, file, _), sizes in zip(cases, lent))
     printed = subprocess.run([sys.argv[1], "--batch"], input=batch, capture_output=True, check=True).stdout.decode()

@@ -8,11 +8,10 @@ oracle/saved.py says what a case looks like; oracle/wrong_writers.py what the li
 import math
 import sys
 
-from generate import bits, of_bits
+from generate import MINUS_ZERO, bits, of_bits
 from handed import MOST_FILE, Handed, Plain
 from saved import answered, rows_of, written
 
-MINUS_ZERO = -0.0
 EXACT, SHORT = 0, -1  # a destination of as many bytes as the file has, and one byte less
 
 
@@ -31,6 +30,7 @@ DOT = at(1, 1)
 BEND = at(-1, 2, 5, 2, 5, -6.5, 7, 8)  # segments 0 to 2
 GOOD = link(0, 0, (0, 0), 1, 0, (1, 1))
 OFF = bits(1 / 2048)
+M = -0.0
 
 
 def right():
@@ -60,6 +60,19 @@ def right():
     yield "link: names a line behind an empty one", Plain([[], DOT], [link(1, 0, (1, 1), 1, 0, (1, 1))]), EXACT
     yield "links: three, in their order, two alike", Plain([SEGMENT, DOT], [GOOD, GOOD, link(1, 0, (1, 1), 0, 0, (3, 4))]), EXACT
     yield "lines: two that lie apart, which the planner refuses with 9", Plain([DOT, SEGMENT]), EXACT
+    # Minus zero is saved as a plain one.
+    yield "minus zero: x of a point", Plain([at(M, 1, 1, 1)]), EXACT
+    yield "minus zero: y of a point", Plain([at(1, 1, 1, M)]), EXACT
+    yield "minus zero: the last coordinate of the last of three lines", Plain([SEGMENT, [], [*BEND, *at(2, M)]]), 3
+    yield "minus zero: all coordinates, beside plain ones", Plain([at(M, M, 0, M), at(M, 0)], flags=4), EXACT
+    for k, name in enumerate(["x of the first end", "y of the first end", "x of the second end", "y of the second end"]):
+        ends = [float(5 + n) if n != k else M for n in range(4)]
+        yield f"minus zero: {name} of the last link", Plain([SEGMENT, DOT], [GOOD, link(0, 0, ends[:2], 1, 0, ends[2:])]), EXACT
+    yield "minus zero: all ends of two links and all points", Plain([at(M, M), at(M, M, M, M)], [link(0, 0, (M, M), 1, 0, (M, M))] * 2), 30
+    yield "minus zero: a line of one point twice, under two signs", Plain([at(0, 2, M, 2)]), EXACT
+    yield "minus zero: two links alike, under two signs", Plain([SEGMENT, DOT], [link(0, 0, (0, M), 1, 0, (1, 1)), GOOD]), EXACT
+    yield "minus zero: numbers of the grid that are next to it keep their sign", Plain([at(-1 / 1024, M, -1, 0, M, -4096)]), EXACT
+    yield "minus zero: a byte short: 16", Plain([at(M, M)]), SHORT
     # At the limits.
     yield "limit: 256 empty lines", Plain([[]] * 256), EXACT
     yield "limit: 1,024 points in one line", Plain([at(5, 6) * 1024]), EXACT
@@ -99,15 +112,15 @@ def refused():
     for flags in (4, 5, 7):
         yield f"15: a link and flags {flags}", Plain([SEGMENT, DOT], [GOOD], flags=flags)
     yield "15: 255 links and flags 4", Plain([SEGMENT, DOT], [GOOD] * 255, flags=4)
-    odd = [MINUS_ZERO, MINUS_ZERO, 1 / 2048, 1 / 1024 + 2**-62, 4096 + 1 / 1024, -4096 - 1 / 1024, math.inf, -math.inf, of_bits(0x7ff8000000000000),
-           of_bits(0xfff0000000000001), 5e-324, 2.0**-1022, 2.0**53, -2.0**64, of_bits(bits(4096.0) - 1), of_bits(bits(4096.0) + 1), of_bits(bits(-3.0) + 1)]
+    odd = [of_bits(MINUS_ZERO + 1), of_bits(MINUS_ZERO + 1), 1 / 2048, 1 / 1024 + 2**-62, 4096 + 1 / 1024, -4096 - 1 / 1024, math.inf, -math.inf,
+           of_bits(0x7ff8000000000000), of_bits(0xfff0000000000001), 5e-324, 2.0**-1022, 2.0**53, -2.0**64, of_bits(bits(4096.0) - 1), of_bits(bits(4096.0) + 1), of_bits(bits(-3.0) + 1)]
     for n, value in enumerate(odd):
         x = bits(value)
         line = [[(x, bits(1.0)), *DOT], [*DOT, (bits(1.0), x)]][n % 2]
         yield f"7: {'xy'[n % 2]} is {value!r}, {x:016x}", Plain([line])
     for k, name in enumerate(["x of the first end", "y of the first end", "x of the second end", "y of the second end"]):
         bad = list(GOOD)
-        bad[4 + k] = bits(MINUS_ZERO) if k == 2 else OFF
+        bad[4 + k] = MINUS_ZERO + 1 if k == 2 else OFF
         yield f"7: {name} of the last link", Plain([SEGMENT, DOT], [GOOD, tuple(bad)])
     yield "7: the last coordinate of the last of three lines", Plain([SEGMENT, [], [*BEND, (bits(2.0), OFF)]], [link(0, 0, (0, 0), 0, 0, (3, 4))])
     for name, end in [("line 2 of 2", (2, 0)), ("line 65,536", (65536, 0)), ("line 65,537", (65537, 0)), ("line 2^32 - 1", (2**32 - 1, 0)),
@@ -118,6 +131,13 @@ def refused():
     yield "8: an empty line is named", Plain([SEGMENT, DOT, []], [link(0, 0, (0, 0), 2, 0, (0, 0))])
     yield "8: segment 3 of four points", Plain([BEND, DOT], [link(0, 3, (7, 8), 1, 0, (1, 1))])
     yield "8: there is no line", Plain([], [GOOD])
+    # Beside a minus zero.
+    yield "5: and a minus zero", Plain([at(M, 1)], width=8193)
+    yield "6: 257 lines, and a minus zero", Plain([at(M, 1)] * 257)
+    yield "15: and a link at minus zero", Plain([SEGMENT, DOT], [link(0, 0, (M, 0), 1, 0, (1, 1))], flags=4)
+    yield "7: and a minus zero before it", Plain([[*at(M, 1), (OFF, MINUS_ZERO)]])
+    yield "7: and a minus zero in the same link", Plain([SEGMENT], [(0, 0, 0, 0, MINUS_ZERO, 0, OFF, MINUS_ZERO)])
+    yield "8: and a minus zero in the same link", Plain([SEGMENT], [link(1, 0, (M, 0), 0, 0, (3, 4))])
 
 
 def misfits():

@@ -5,7 +5,7 @@ use crate::against::{self, hex};
 use crate::handed::{next_handed, Handed, Saved};
 use crate::port::Lender;
 use crate::port_writer::Saver;
-use crate::{next_drawing, reader, writer, LENT_BY_PLAN};
+use crate::{cleaned, next_drawing, reader, writer, LENT_BY_PLAN};
 use std::collections::BTreeMap;
 
 /// Files that are planned too: one in so many, and none that is longer.
@@ -36,14 +36,15 @@ pub fn run_handed() -> bool {
 }
 
 /// Files, in batch form on standard input: each one that passes checks 1 to 4 is taken apart and saved again. What the reader
-/// takes must come out as the same file, and what it refuses must be refused with the same number.
+/// takes must come out as the cleaned file, which is the same one where it has no minus zero, and what it refuses must be refused with
+/// the same number.
 pub fn run_rewritten() -> bool {
     let mut run = Run::new();
     while let Some((_, file)) = next_drawing() {
         run.drawings += 1;
         match (Handed::of_file(&file), reader::read(&file)) {
             (None, Err(number @ 1..=4)) => *run.answers.entry(number).or_default() += 1,
-            (Some(handed), Ok(drawing)) if handed == Handed::of_drawing(&drawing) => run.rewrite(&file, &handed, None),
+            (Some(handed), Ok(drawing)) if handed.cleaned() == Handed::of_drawing(&drawing) => run.rewrite(&file, &handed, None),
             (Some(handed), Err(number)) => run.rewrite(&file, &handed, Some(number)),
             _ => run.differs("what handed.rs and reader.rs find in a file", file),
         }
@@ -109,7 +110,8 @@ impl Run {
             _ => writer::unchecked(handed).filter(|file| file.len() <= 65_536)?,
         };
         match (answer.refusal, reader::read(&file)) {
-            (0 | 16, Ok(drawing)) if Handed::of_drawing(&drawing) == *handed => {
+            (0, Ok(_)) if cleaned::file(&file) != file => Some("a minus zero in the file"),
+            (0 | 16, Ok(drawing)) if Handed::of_drawing(&drawing) == handed.cleaned() => {
                 self.read += 1;
                 if answer.refusal == 0 && self.read % PLANNED == 0 && file.len() <= MOST_PLANNED {
                     self.plans.compare(&mut self.lender, &file, LENT_BY_PLAN);
@@ -128,11 +130,12 @@ impl Run {
     /// With a destination that fits exactly, and with a longer one.
     fn rewrite(&mut self, file: &[u8], handed: &Handed, refusal: Option<u32>) {
         *self.answers.entry(refusal.unwrap_or(0)).or_default() += 1;
+        let plain = cleaned::file(file);
         for (more, upper) in [(0, self.drawings % 2 == 0), (1 + self.drawings % 300, self.drawings % 2 == 1)] {
             let before = self.saver.before(self.drawings, file.len() + more);
             let (saved, after) = self.call(handed, &before, upper);
             let wanted = match refusal {
-                None => (Saved { refusal: 0, bytes: file.len() }, [file, &before[file.len()..]].concat()),
+                None => (Saved { refusal: 0, bytes: file.len() }, [&plain, &before[file.len()..]].concat()),
                 Some(refusal) => (Saved { refusal, bytes: 0 }, before),
             };
             if (saved, after) != wanted {

@@ -4,8 +4,8 @@
 usage: oracle/saved_again.py SAVE ORACLE SEED COUNT [KIND ...]      (the files of answers.txt and all kinds if none is named)
 
 COUNT files of each kind of the generator, and those of oracle/answers.txt as the kind `answers`. A file that the reader takes must
-come out on standard output, byte for byte; for any other `refused N` must stand on standard error, and nothing else anywhere. The
-status is 0 both times.
+come out on standard output, byte for byte, with plain zeros for its minus zeros; for any other `refused N` must stand on standard
+error, and nothing else anywhere. The status is 0 both times.
 """
 import collections
 import pathlib
@@ -31,10 +31,11 @@ def main():
     for kind in kinds or ["answers", *KINDS]:
         given = files(kind, seed, int(count))
         batch = b"".join(map(d.batched, given))
-        printed = subprocess.run([oracle, "--batch", "--read"], input=batch, stdout=subprocess.PIPE, check=True).stdout.decode()
-        for file, number in zip(given, map(int, printed.split()), strict=True):
+        asked = lambda option: subprocess.run([oracle, "--batch", option], input=batch, stdout=subprocess.PIPE, check=True).stdout
+        numbers, cleaned = map(int, asked("--read").split()), d.unbatched(asked("--cleaned"))
+        for file, number, (*_, plain) in zip(given, numbers, cleaned, strict=True):
             run = subprocess.run([save], input=file, capture_output=True)
-            wanted = (0, b"", f"refused {number}\n".encode()) if number else (0, file, b"")
+            wanted = (0, b"", f"refused {number}\n".encode()) if number else (0, plain, b"")
             tally[number] += 1
             if (run.returncode, run.stdout, run.stderr) != wanted:
                 wrong += 1

@@ -68,6 +68,12 @@ BY_ENDS = """|&(_, by)| by.is_some_and(|e| {
     (a, b) == (c, d) || (a, b) == (d, c)
 })"""
 CUT = "[&nodes[after..], &nodes[1..after]].concat()"
+# A coordinate with its sign, for versions that do not clean all of them.
+RAW = "fn raw(bytes: &[u8], at: usize) -> f64 {\n    f64::from_le_bytes(bytes[at..at + 8].try_into().unwrap())\n}\n\n"
+RAW_POINT = "(raw(p, 0), raw(p, 8))"
+FIRST_END, SECOND_END = "a: point_at(b, 8),", "b: point_at(b, 24),"
+CLEANED = "if read == 0.0 && !cfg!(as_signed) { 0.0 } else { read }"
+MINUS_ZERO = "[0, 0, 0, 0, 0, 0, 0, 0x80]"
 
 
 def tolerance(by):
@@ -94,6 +100,27 @@ def joined_before(condition):
     }}
 """
     return "links.rs", ("    let mut kept = Vec::new();", merged + "    let mut kept = Vec::new();")
+
+
+def zero_read(by):
+    """Minus zero is read as something else."""
+    return "reader.rs", (CLEANED, f"if read.to_bits() == 1 << 63 {{ {by} }} else {{ read }}")
+
+
+def zero_refused(bodies):
+    """Minus zero is refused in these bodies, which hold coordinates alone."""
+    check = f"    if {bodies}.any(|b| b.chunks(8).any(|c| c == {MINUS_ZERO})) {{\n        return Err(7);\n    }}\n"
+    return "reader.rs", (GRID_CHECKED, check + GRID_CHECKED)
+
+
+def zero_kept(*pairs):
+    return "reader.rs", ("fn point_at(bytes", RAW + "fn point_at(bytes"), *pairs
+
+
+def zero_kept_in_lines(condition):
+    """In point k of the points of a line's body b where the condition holds."""
+    return zero_kept(("b.chunks(16).map(|p| point_at(p, 0))",
+                      f"b.chunks(16).enumerate().map(|(k, p)| if {condition} {{ {RAW_POINT} }} else {{ point_at(p, 0) }})"))
 
 
 def side(name, by):
@@ -237,6 +264,40 @@ VERSIONS = {
     "flags: 6 and 7 are not Inside": ("reader.rs", ("flags & 2 != 0", "flags == 2 || flags == 3")),
     "flags: 7 is not Inside": ("reader.rs", ("flags & 2 != 0", "flags & 2 != 0 && flags != 7")),
     **{f"flags: {flags} makes no links": ("reader.rs", ("flags & 4 != 0", f"flags & 4 != 0 && flags != {flags}")) for flags in range(4, 8)},
+    "minus zero: refused": ("reader.rs", (CLEANED, "read"), (".fract() == 0.0\n", ".fract() == 0.0 && x.to_bits() != 1 << 63\n")),
+    "minus zero: refused in lines": zero_refused("line_bodies.iter()"),
+    "minus zero: refused in links": zero_refused("link_bodies.iter().map(|b| &b[8..])"),
+    "minus zero: kept everywhere": ("reader.rs", (CLEANED, "read")),
+    "minus zero: kept in lines": zero_kept_in_lines("true"),
+    "minus zero: kept in x of lines": zero_kept(("point_at(p, 0)", "(raw(p, 0), coordinate(p, 8))")),
+    "minus zero: kept in y of lines": zero_kept(("point_at(p, 0)", "(coordinate(p, 0), raw(p, 8))")),
+    "minus zero: kept in first points": zero_kept_in_lines("k == 0"),
+    "minus zero: kept in last points": zero_kept_in_lines("16 * k + 16 == b.len()"),
+    "minus zero: kept within lines": zero_kept_in_lines("k > 0 && 16 * k + 16 < b.len()"),
+    "minus zero: kept in dots": zero_kept_in_lines("b.len() == 16"),
+    "minus zero: kept where both coordinates are": zero_kept_in_lines("coordinate(p, 0) == 0.0 && coordinate(p, 8) == 0.0"),
+    "minus zero: kept where one coordinate is": zero_kept_in_lines("coordinate(p, 0) != 0.0 || coordinate(p, 8) != 0.0"),
+    "minus zero: kept in flagged drawings": zero_kept_in_lines("link"),
+    "minus zero: kept in drawings without flag 4": zero_kept_in_lines("!link"),
+    "minus zero: kept in links": zero_kept((FIRST_END, "a: (raw(b, 8), raw(b, 16)),"), (SECOND_END, "b: (raw(b, 24), raw(b, 32)),")),
+    "minus zero: kept in first ends": zero_kept((FIRST_END, "a: (raw(b, 8), raw(b, 16)),")),
+    "minus zero: kept in second ends": zero_kept((SECOND_END, "b: (raw(b, 24), raw(b, 32)),")),
+    "minus zero: kept in x of first ends": zero_kept((FIRST_END, "a: (raw(b, 8), coordinate(b, 16)),")),
+    "minus zero: kept in y of first ends": zero_kept((FIRST_END, "a: (coordinate(b, 8), raw(b, 16)),")),
+    "minus zero: kept in x of second ends": zero_kept((SECOND_END, "b: (raw(b, 24), coordinate(b, 32)),")),
+    "minus zero: kept in y of second ends": zero_kept((SECOND_END, "b: (coordinate(b, 24), raw(b, 32)),")),
+    "minus zero: a step below zero": zero_read("-1.0 / 1024.0"),
+    "minus zero: a step above zero": zero_read("1.0 / 1024.0"),
+    "minus zero: -4,096": zero_read("-4096.0"),
+    "minus zero: a step below zero where links are made": zero_kept(("point_at(p, 0)", """{
+            let below = |x: f64| if link && x.to_bits() == 1 << 63 { -1.0 / 1024.0 } else { x + 0.0 };
+            (below(raw(p, 0)), below(raw(p, 8)))
+        }""")),
+    "minus zero: all signs passed over": ("reader.rs", (CLEANED, "read.abs()")),
+    "minus zero: the smallest numbers too": ("reader.rs", (CLEANED, "if read.abs() < f64::MIN_POSITIVE { 0.0 } else { read }")),
+    "minus zero: the smallest numbers below zero too": (
+        "reader.rs", (CLEANED, "if read <= 0.0 && -read < f64::MIN_POSITIVE { 0.0 } else { read }")),
+    "minus zero: less than half a step below zero too": ("reader.rs", (CLEANED, "if read <= 0.0 && -read < 1.0 / 2048.0 { 0.0 } else { read }")),
     "made links: none": ("links.rs", ("    kept\n}", "    kept.clear();\n    kept\n}")),
     "made links: one fewer, the longest": ("links.rs", ("    kept\n}", "    kept.pop();\n    kept\n}")),
     "made links: one fewer, the shortest": ("links.rs", ("    kept\n}", "    kept.drain(..1.min(kept.len()));\n    kept\n}")),

@@ -1,6 +1,6 @@
-//! The writer of drawing files, from the words of document 01 and of change requests 1 and 2: a drawing becomes the one file that
-//! reads back as it, or is refused with 5, 6, 15, 7, 8 or 16, in this order. Before them 4, for slices that do not fit one another, is
-//! docs/DECISIONS.md's. It shares no rule with reader.rs.
+//! The writer of drawing files, from the words of document 01 and of change requests 1 to 3: a drawing becomes the one file without minus
+//! zeros that reads back as it, or is refused with 5, 6, 15, 7, 8 or 16, in this order. Before them 4, for slices that do not fit one
+//! another, is docs/DECISIONS.md's. It shares no rule with reader.rs.
 
 use crate::handed::{Handed, Saved};
 
@@ -109,13 +109,13 @@ fn off_grid(parts: &Parts) -> bool {
     in_lines.chain(in_links).any(|&bits| !on_grid(bits))
 }
 
-/// Whether the bits are those of a whole multiple of 1/1024 from -4,096 to 4,096 that is not negative zero. In whole numbers.
+/// Whether the bits are those of a whole multiple of 1/1024 from -4,096 to 4,096, a zero of either sign among them. In whole numbers.
 fn on_grid(bits: u64) -> bool {
     let exponent = bits >> 52 & 0x7ff;
     let fraction = bits & ((1 << 52) - 1);
     match exponent {
         // Zero, or a number far smaller than a step.
-        0 => bits == 0,
+        0 => fraction == 0,
         // The value is (2^52 + fraction) * 2^(exponent - 1075). In steps the power is 10 higher, and with none left it would be
         // 2^52 steps at least.
         1013..=1064 => {
@@ -169,7 +169,13 @@ fn settings_body(handed: &Handed) -> Vec<u8> {
 }
 
 fn line_body(line: &[u64]) -> Vec<u8> {
-    line.iter().flat_map(|bits| bits.to_le_bytes()).collect()
+    line.iter().flat_map(|&bits| stored(bits)).collect()
+}
+
+/// A coordinate's bytes: those of plain zero for both zeros.
+fn stored(bits: u64) -> [u8; 8] {
+    let is_zero = bits << 1 == 0;
+    (if is_zero { 0 } else { bits }).to_le_bytes()
 }
 
 /// Numbers of two bytes each, then coordinates.
@@ -178,8 +184,8 @@ fn link_body(link: &Link) -> Vec<u8> {
     for &name in link.names {
         body.extend((name as u16).to_le_bytes());
     }
-    for bits in link.ends {
-        body.extend(bits.to_le_bytes());
+    for &bits in link.ends {
+        body.extend(stored(bits));
     }
     body
 }

@@ -41,13 +41,28 @@ IN_LINES, IN_LINKS = "parts.lines.iter().flat_map(|line| line.iter())", "parts.l
 LINE_WRITTEN = "        record(&mut file, 2, &line_body(line));\n"
 LINES = "    for line in &parts.lines {\n" + LINE_WRITTEN + "    }\n"
 LINKS = "    for link in &parts.links {\n        record(&mut file, 3, &link_body(link));\n    }\n"
-LINE_BODY = "line.iter().flat_map(|bits| bits.to_le_bytes()).collect()"
+LINE_BODY = "line.iter().flat_map(|&bits| stored(bits)).collect()"
+LINK_ENDS = "    for &bits in link.ends {\n        body.extend(stored(bits));\n    }\n"
+ZERO, ANY_OFF = "0 => fraction == 0,", "in_lines.chain(in_links).any(|&bits| !on_grid(bits))"
+MINUS_ZERO, STORED = "any(|&bits| bits == 1 << 63)", "(if is_zero { 0 } else { bits })"
 HERE_ANY = "names.into_iter().any(|name| !is_there(parts, name[0] as usize, name[1] as usize))"
 
 
 def moved(block, behind):
     """A check that comes too late: behind another block."""
     return (block, ""), (behind, behind + block)
+
+
+def kept_in_lines(condition):
+    """The sign is kept in number k of a line's coordinates where the condition holds."""
+    kept = f"if {condition} {{ bits.to_le_bytes() }} else {{ stored(bits) }}"
+    return [(LINE_BODY, f"line.iter().enumerate().flat_map(|(k, &bits)| {kept}).collect()")]
+
+
+def kept_in_links(place):
+    """The sign is kept in this one of a link's four coordinates."""
+    kept = f"body.extend(if k == {place} {{ bits.to_le_bytes() }} else {{ stored(bits) }});"
+    return [("for &bits in link.ends", "for (k, &bits) in link.ends.iter().enumerate()"), ("body.extend(stored(bits));", kept)]
 
 
 def most(name, value, by):
@@ -91,15 +106,18 @@ VERSIONS = {
     "15: the flag is left out": [(
         FIFTEEN, "let mut copy = handed.clone(); if own_links(handed, &parts) { copy.flags &= !LINK; } let handed = &copy;\n")],
     "7: left to the reader": [(SEVEN, "")],
-    "7: minus zero is taken": [("0 => bits == 0,", "0 => bits << 1 == 0,")],
-    "7: minus zero is saved as zero": [("0 => bits == 0,", "0 => bits << 1 == 0,"), (
-        LINE_BODY, "line.iter().flat_map(|&bits| if bits << 1 == 0 { 0 } else { bits }.to_le_bytes()).collect()")],
-    "7: the smallest numbers are taken": [("0 => bits == 0,", "0 => bits != 1 << 63,")],
-    "7: small normal numbers are taken": [("0 => bits == 0,", "0 => bits == 0,\n        1..=1012 => fraction == 0,")],
-    "7: infinities are taken": [("0 => bits == 0,", "0 => bits == 0,\n        2047 => fraction == 0,")],
-    "7: no number is taken": [("0 => bits == 0,", "0 => bits == 0,\n        2047 => fraction != 0,")],
-    "7: large whole numbers are taken": [("0 => bits == 0,", "0 => bits == 0,\n        1065..=1085 => true,")],
-    "7: 2^64 is taken, as 0 in 64 bits": [("0 => bits == 0,", "0 => bits == 0,\n        1087.. => exponent != 2047,")],
+    "7: minus zero is refused": [(ZERO, "0 => bits == 0,")],
+    "7: minus zero is refused in lines": [(ANY_OFF, f"in_lines.clone().{MINUS_ZERO} || {ANY_OFF}")],
+    "7: minus zero is refused in links": [(ANY_OFF, f"in_links.clone().{MINUS_ZERO} || {ANY_OFF}")],
+    "7: minus zero is taken, plain zero is not": [(ZERO, "0 => bits == 1 << 63,")],
+    "7: the smallest numbers are taken": [(ZERO, "0 => true,")],
+    "7: the smallest numbers above zero are taken": [(ZERO, "0 => fraction == 0 || bits >> 63 == 0,")],
+    "7: the smallest numbers below zero are taken": [(ZERO, "0 => fraction == 0 || bits >> 63 == 1,")],
+    "7: small normal numbers are taken": [(ZERO, ZERO + "\n        1..=1012 => fraction == 0,")],
+    "7: infinities are taken": [(ZERO, ZERO + "\n        2047 => fraction == 0,")],
+    "7: no number is taken": [(ZERO, ZERO + "\n        2047 => fraction != 0,")],
+    "7: large whole numbers are taken": [(ZERO, ZERO + "\n        1065..=1085 => true,")],
+    "7: 2^64 is taken, as 0 in 64 bits": [(ZERO, ZERO + "\n        1087.. => exponent != 2047,")],
     "7: the grid of 1/2048": [("1065 - exponent", "1064 - exponent"), ("1013..=1064", "1012..=1063"), ("4096 * 1024", "4096 * 2048")],
     "7: the grid of 1/512": [("1065 - exponent", "1066 - exponent"), ("1013..=1064", "1014..=1065"), ("4096 * 1024", "4096 * 512")],
     "7: below 4,096": [(">> shift <= MOST_STEPS", ">> shift < MOST_STEPS")],
@@ -117,6 +135,31 @@ VERSIONS = {
        for k in range(4)},
     "7: all lines but the last": [(IN_LINES, "parts.lines.iter().rev().skip(1).flat_map(|line| line.iter())")],
     "7: all links but the last": [(IN_LINKS, "parts.links.iter().rev().skip(1).flat_map(|link| link.ends.iter())")],
+    "minus zero: the sign is kept": [("let is_zero = bits << 1 == 0;", "let is_zero = bits == 0;")],
+    "minus zero: the sign is kept in lines": kept_in_lines("true"),
+    "minus zero: the sign is kept in x of points": kept_in_lines("k % 2 == 0"),
+    "minus zero: the sign is kept in y of points": kept_in_lines("k % 2 == 1"),
+    "minus zero: the sign is kept in a line's first point": kept_in_lines("k < 2"),
+    "minus zero: the sign is kept behind a line's first point": kept_in_lines("k > 1"),
+    "minus zero: the sign is kept in dots": kept_in_lines("line.len() == 2"),
+    "minus zero: the sign is kept in lines of flagged drawings": [(LINE_WRITTEN, LINE_WRITTEN.replace("&line_body(line)", """
+            &if handed.flags & LINK != 0 { line.iter().flat_map(|bits| bits.to_le_bytes()).collect() } else { line_body(line) }"""))],
+    "minus zero: the sign is kept in links": [("body.extend(stored(bits));", "body.extend(bits.to_le_bytes());")],
+    **{f"minus zero: the sign is kept in number {k} of a link's four": kept_in_links(k) for k in range(4)},
+    "minus zero: saved as a step below zero": [(STORED, "(if bits == 1 << 63 { (-1.0f64 / 1024.0).to_bits() } else { bits })")],
+    "minus zero: saved as -4,096": [(STORED, "(if bits == 1 << 63 { (-4096.0f64).to_bits() } else { bits })")],
+    "minus zero: saved for both zeros": [(STORED, "(if is_zero { 1 << 63 } else { bits })")],
+    "minus zero: all signs are lost": [(STORED, "(bits & !(1 << 63))")],
+    "minus zero: points at it left out": [(
+        LINE_BODY, "line.chunks(2).filter(|point| !point.contains(&(1 << 63))).flatten().flat_map(|&bits| stored(bits)).collect()")],
+    "minus zero: links at it left out": [(
+        LINKS, LINKS.replace("        record", "        if link.ends.contains(&(1 << 63)) { continue; }\n        record"))],
+    "minus zero: points that it makes alike written once": [(
+        LINE_BODY, "{ let mut points: Vec<_> = line.chunks(2).map(|p| [stored(p[0]), stored(p[1])]).collect();"
+        " points.dedup_by(|a, b| a == b && line.contains(&(1 << 63))); points.into_iter().flatten().flatten().collect() }")],
+    "minus zero: links that it makes alike written once": [(
+        "    for link in &parts.links {", "    for (k, link) in parts.links.iter().enumerate() {\n"
+        "        if parts.links[..k].iter().any(|l| l.ends != link.ends && link_body(l) == link_body(link)) { continue; }")],
     "8: left to the reader": [(EIGHT, "")],
     "8: an empty line may be named": [("points > 0 && (segment == 0", "line < parts.lines.len() && (segment == 0")],
     "8: the segment behind the last": [("segment + 2 <= points", "segment + 1 <= points")],
@@ -208,32 +251,20 @@ VERSIONS = {
         "        if parts.links[..k].iter().any(|l| l.names == link.names && l.ends == link.ends) { continue; }")],
     "file: points alike written once": [(
         LINE_BODY, "{ let mut points: Vec<&[u64]> = line.chunks(2).collect(); points.dedup();"
-        " points.concat().into_iter().flat_map(u64::to_le_bytes).collect() }")],
-    "file: x and y exchanged": [(LINE_BODY, "line.chunks(2).flat_map(|p| [p[1], p[0]]).flat_map(u64::to_le_bytes).collect()")],
-    "file: a line from its end to its start": [(LINE_BODY, "line.rchunks(2).flat_map(|p| [p[0], p[1]]).flat_map(u64::to_le_bytes).collect()")],
-    "file: a coordinate's highest byte first": [(LINE_BODY, "line.iter().flat_map(|bits| bits.to_be_bytes()).collect()")],
-    "file: a link's coordinates, highest byte first": [(
-        "for bits in link.ends {\n        body.extend(bits.to_le_bytes());", "for bits in link.ends {\n        body.extend(bits.to_be_bytes());")],
+        " points.concat().into_iter().flat_map(stored).collect() }")],
+    "file: x and y exchanged": [(LINE_BODY, "line.chunks(2).flat_map(|p| [p[1], p[0]]).flat_map(stored).collect()")],
+    "file: a line from its end to its start": [(LINE_BODY, "line.rchunks(2).flat_map(|p| [p[0], p[1]]).flat_map(stored).collect()")],
+    "file: a coordinate's highest byte first": [(LINE_BODY, "line.iter().flat_map(|&bits| stored(bits).into_iter().rev()).collect()")],
+    "file: a link's coordinates, highest byte first": [("body.extend(stored(bits));", "body.extend(stored(bits).into_iter().rev());")],
     "file: a link's ends exchanged": [("for &name in link.names", "for &name in [&link.names[2..], &link.names[..2]].concat().iter()"), (
-        "for bits in link.ends", "for bits in [&link.ends[2..], &link.ends[..2]].concat().iter()")],
-    "file: only the points of a link's ends exchanged": [("for bits in link.ends", "for bits in [&link.ends[2..], &link.ends[..2]].concat().iter()")],
+        "for &bits in link.ends", "for &bits in [&link.ends[2..], &link.ends[..2]].concat().iter()")],
+    "file: only the points of a link's ends exchanged": [("for &bits in link.ends", "for &bits in [&link.ends[2..], &link.ends[..2]].concat().iter()")],
     "file: only the names of a link's ends exchanged": [(
         "for &name in link.names", "for &name in [&link.names[2..], &link.names[..2]].concat().iter()")],
     "file: both lines of a link, then both segments": [("for &name in link.names", "for name in [0, 2, 1, 3].map(|k| link.names[k])")],
     "file: segment before line": [("for &name in link.names", "for name in [1, 0, 3, 2].map(|k| link.names[k])")],
-    "file: a link's coordinates before its names": [("""    for &name in link.names {
-        body.extend((name as u16).to_le_bytes());
-    }
-    for bits in link.ends {
-        body.extend(bits.to_le_bytes());
-    }
-""", """    for bits in link.ends {
-        body.extend(bits.to_le_bytes());
-    }
-    for &name in link.names {
-        body.extend((name as u16).to_le_bytes());
-    }
-""")],
+    "file: a link's coordinates before its names": [
+        (LINK_ENDS, ""), ("    for &name in link.names {", LINK_ENDS + "    for &name in link.names {")],
     "file: a name's highest byte first": [("(name as u16).to_le_bytes()", "(name as u16).to_be_bytes()")],
     "file: a name of one byte and a zero": [("(name as u16).to_le_bytes()", "[name as u8, 0]")],
     "file: a body's length highest byte first": [("(body.len() as u32).to_le_bytes()", "(body.len() as u32).to_be_bytes()")],

@@ -1,8 +1,9 @@
 #!/usr/bin/env python3
-"""Writes crates/grid_vectors/data/vectors: 64-bit patterns with their places by document 01's check 7.
+"""Writes crates/grid_vectors/data/vectors: 64-bit patterns with their places by check 7, where minus zero is a zero (CR 3).
 
 Each line is fixed in width: a kind, a pattern in 16 hex digits, a place in 8. Kind `r` is a pattern to read,
 with its place, or ffffffff where it is not on the grid. Kind `w` is a place whose pattern is to be written.
+Minus zero's place is that of 0, and what is written there is plain zero: this pattern alone does not come back.
 All numbers are exact (fractions.Fraction), and the random ones come from a fixed seed.
 """
 import os
@@ -30,7 +31,7 @@ def bits_of(number):
 def place_of(bits):
     """Check 7, from the pattern's value as a fraction."""
     value = float_of(bits)
-    if value != value or value in (float("inf"), float("-inf")) or bits == 1 << 63:
+    if value != value or value in (float("inf"), float("-inf")):
         return OFF
     steps = Fraction(value) * STEPS
     if steps.denominator != 1 or abs(steps) > ORIGIN:

@@ -1,9 +1,9 @@
 #!/usr/bin/env python3
 """Writes crates/file_cases/data/cases: drawing files with what the reader has to answer to each.
 
-Every refusal from 1 to 8, and 15 between 6 and 7, and both sides of every limit. What is expected is worked out here,
-from documents 01 and 02, with exact fractions. All numbers are little-endian; the file is a u16 count of cases and
-then, for each case,
+Every refusal from 1 to 8, and 15 between 6 and 7, both sides of every limit, and minus zero, which is read as 0. What is
+expected is worked out here, from documents 01 and 02, with exact fractions. All numbers are little-endian; the file is a u16
+count of cases and then, for each case,
   u8 runs, and for each run a u32 repeat, a u16 length and the bytes (the drawing file is the runs, repeated),
   u8 refusal (0: accepted), u32 checksum of the settings, the lines and all arrays of places,
   u16 links, and for each four u16 (line, segment, line, segment) and four u32 places (x, y, x, y).
@@ -49,11 +49,11 @@ def zeros(kind, size):
     return [(1, struct.pack("<IH", size, kind)), (size, b"\0")]
 
 
-# ---- document 01, with what CR 1 adds, read as it stands
+# ---- document 01, with what CR 1 and 3 change, read as it stands
 
 def place_of(bits):
     """A coordinate's place, or None where check 7 refuses it."""
-    if bits == 1 << 63 or bits >> 52 & 0x7FF == 0x7FF:
+    if bits >> 52 & 0x7FF == 0x7FF:
         return None
     steps = Fraction(struct.unpack("<d", struct.pack("<Q", bits))[0]) * STEPS
     if steps.denominator != 1 or abs(steps) > ORIGIN:
@@ -132,8 +132,7 @@ def cases():
     dot = line((0.0, 0.0))
     pair = line((0.0, 0.0), (3.0, 4.0))
     step = 1.0 / STEPS
-    minus_zero, nan = struct.pack("<Q", 1 << 63), struct.pack("<Q", 0x7FF8000000000000)
-    infinite = struct.pack("<Q", 0x7FF0000000000000)
+    nan, infinite, off = struct.pack("<Q", 0x7FF8000000000000), struct.pack("<Q", 0x7FF0000000000000), step / 2
 
     # check 1
     eight = [(1, base)]
@@ -207,7 +206,7 @@ def cases():
     some = link((1, 0), (0, 0), ((1.0, 2.0), (-3.0, 4.5)))
     yield [(1, base), (2, pair), (255, some)]
     yield [(1, base), (2, pair), (256, some)]
-    yield [(1, base), (257, line((minus_zero, 0.0)))]        # and not 7
+    yield [(1, base), (257, line((off, 0.0)))]               # and not 7
 
     # check 15: a link for each value of the flags, and none; the neighbours, each also with a link and no flag
     other = line((1.0, 0.0), (1.0, 2.0))
@@ -222,24 +221,26 @@ def cases():
     yield [(1, settings(flags=4)), (2, pair), (256, some)]                               # 6 and not 15
     yield [(1, settings(flags=4)), (257, dot), (1, some)]
     for flags in (0, 4):
-        yield once(settings(flags=flags), pair, line((minus_zero, 0.0)), joined)         # 15 and not 7
+        yield once(settings(flags=flags), pair, line((off, 0.0)), joined)                # 15 and not 7
         yield once(settings(flags=flags), pair, other, link((0, 0), (1, 0), ((nan, 0.0), (1.0, 0.0))))
         yield once(settings(flags=flags), pair, other, link((0, 1), (1, 0)))             # 15 and not 8
         yield once(settings(flags=flags), pair, line(), link((0, 0), (1, 0)))
         yield once(settings(flags=flags), pair, other, joined, link((9, 0), (0, 0), ((nan, 0.0), (0.0, 0.0))))
 
     # check 7: in a line, x and y, first and last; in each coordinate of a link
-    for value in (4096.0, 4096.0 + step, -4096.0, -4096.0 - step, step, -step, step / 2, 4096.0 - step, 0.0,
-                  minus_zero, nan, infinite, 1e300, 5e-324, 2.5, -1023.25):
+    for value in (4096.0, 4096.0 + step, -4096.0, -4096.0 - step, step, -step, off, 4096.0 - step, 0.0,
+                  nan, infinite, 1e300, 5e-324, -5e-324, 2.5, -1023.25):
         yield once(base, line((value, 0.0)))
         yield once(base, line((1.0, 1.0), (0.0, value)))
         yield once(base, pair, line(), line((1.0, 1.0), (value, 2.0)))
     for where in range(4):
-        for value in (4096.0, 4096.0 + step, minus_zero, nan, -step):
+        for value in (4096.0, 4096.0 + step, nan, -step):
             ends = [0.0] * 4
             ends[where] = value
             yield once(base, pair, link((0, 0), (0, 0)), link((0, 0), (0, 0), (ends[:2], ends[2:])))
     yield once(base, pair, link((9, 0), (0, 0), ((nan, 0.0), (0.0, 0.0))))   # and not 8
+
+    yield from with_minus_zero()
 
     # check 8: missing and empty lines; segments at and past their bound; either end
     three = line((0.0, 0.0), (1.0, 0.0), (2.0, 0.0))
@@ -273,6 +274,32 @@ def cases():
             named = [(i, chance.randint(0, max(0, counts[i] - 2))) for i in (a, b)]
             parts.append(link(*named, ((anywhere(), anywhere()), (anywhere(), anywhere()))))
         yield once(*parts)
+
+
+def with_minus_zero():
+    """Minus zero is taken and read at the place of 0: at every place in a line and in a link, alone and all at once, and
+    beside what is refused."""
+    base, dot, pair = settings(), line((0.0, 0.0)), line((0.0, 0.0), (3.0, 4.0))
+    minus, nan, off = struct.pack("<Q", 1 << 63), struct.pack("<Q", 0x7FF8000000000000), 0.5 / STEPS
+    for x, y in ((minus, 0.0), (minus, 3.0), (0.0, minus), (-2.5, minus), (minus, minus)):
+        yield once(base, line((x, y)))
+        yield once(base, line((1.0, 1.0), (x, y)))
+        yield once(base, pair, line(), line((x, y), (1.0, 1.0), (0.0, 0.0)), line((2.0, 2.0), (x, y)))
+        yield once(settings(flags=4), pair, line((x, y), (0.0, 0.0)))
+    for where in range(4):
+        for ends in ([0.0] * 4, [5.0, -6.0, 7.0, -8.0]):
+            ends[where] = minus
+            yield once(base, pair, dot, link((0, 0), (1, 0)), link((0, 0), (1, 0), (ends[:2], ends[2:])), link((1, 0), (1, 0)))
+    three = line(*[(minus, minus)] * 3)
+    joined = link((0, 1), (0, 0), [(minus, minus)] * 2)
+    yield once(base, three, joined, joined)
+    for wrong in (off, -off, nan, 5e-324, -5e-324):
+        yield once(base, line((minus, wrong)), line((minus, 0.0)))                      # 7
+        yield once(base, pair, link((0, 0), (0, 0), ((minus, 0.0), (0.0, wrong))))
+    yield once(base, three, link((0, 2), (0, 0), ((minus, 0.0), (0.0, 0.0))))           # 8
+    yield once(base, three, link((0, 0), (1, 0), ((0.0, 0.0), (0.0, minus))))
+    yield once(settings(flags=4), three, joined)                                        # 15
+    yield [(1, base), (257, line((minus, 0.0)))]                                        # 6
 
 
 def main():

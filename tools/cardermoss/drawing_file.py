@@ -1,6 +1,7 @@
 """Drawing files (docs/DRAWING-FILE.md): their records written and read, and coordinates on the grid.
 
-A coordinate that was read is its 64-bit pattern, so that a file that is refused can be spoken of too.
+A coordinate that was read is its 64-bit pattern, so that a file that is refused can be spoken of too. Minus zero is a zero: a
+text has it as it stands in the file, `minus_zeros` counts it, and whatever else is read here has plain zero for it, as the planner does.
 """
 import collections
 import struct
@@ -11,7 +12,7 @@ LINK_LENGTH, SETTINGS_LENGTH, POINT_LENGTH = 40, 10, 16
 
 STEPS = 1024                    # grid steps in a pixel
 REACH = 4096                    # the largest coordinate, in pixels
-NEGATIVE_ZERO = 1 << 63
+MINUS_ZERO = 1 << 63            # its pattern
 
 GREEDY, OPTIMAL = 0, 1          # pairing
 CLOSE, INSIDE, LINKING = 1, 2, 4  # flags, each a bit
@@ -61,9 +62,19 @@ def float_of(bits):
 def steps_of(bits):
     """A coordinate in whole grid steps, or None where it is not on the grid."""
     value = float_of(bits)
-    if bits == NEGATIVE_ZERO or not abs(value) <= REACH or not (value * STEPS).is_integer():
+    if not abs(value) <= REACH or not (value * STEPS).is_integer():
         return None
     return int(value * STEPS)
+
+
+def clean(bits):
+    """A pattern with plain zero for minus zero."""
+    return 0 if bits == MINUS_ZERO else bits
+
+
+def as_it_stands(bits):
+    """A pattern as it is, minus zero too."""
+    return bits
 
 
 def in_steps(point):
@@ -98,23 +109,32 @@ def length_fits(kind, length):
     return length == {SETTINGS: SETTINGS_LENGTH, LINK: LINK_LENGTH}.get(kind)
 
 
-def points_in(body):
-    """The points of a line's body, as pairs of patterns."""
-    flat = struct.unpack(f"<{len(body) // 8}Q", body)
+def points_in(body, each=clean):
+    """The points of a line's body, as pairs of patterns; each is what becomes of a pattern: clean or as_it_stands."""
+    flat = list(map(each, struct.unpack(f"<{len(body) // 8}Q", body)))
     return list(zip(flat[::2], flat[1::2]))
 
 
-def link_in(body):
-    line_a, segment_a, line_b, segment_b, ax, ay, bx, by = struct.unpack("<HHHHQQQQ", body)
-    return Link(line_a, segment_a, (ax, ay), line_b, segment_b, (bx, by))
+def link_in(body, each=clean):
+    line_a, segment_a, line_b, segment_b = struct.unpack_from("<HHHH", body)
+    a, b = points_in(body[8:], each)
+    return Link(line_a, segment_a, a, line_b, segment_b, b)
 
 
 def settings_in(body):
     return Settings(*struct.unpack("<IIBB", body))
 
 
+def minus_zeros(records):
+    """How many coordinates of lines and links are minus zero. All bodies have the length that their kind asks."""
+    points = [p for r in records if r.kind == LINE for p in points_in(r.body, as_it_stands)]
+    points += [p for r in records if r.kind == LINK for p in points_in(r.body[8:], as_it_stands)]
+    return sum(bits == MINUS_ZERO for p in points for bits in p)
+
+
 def assembled(records):
-    """The drawing that records say. What does not fit its kind is passed over, so that a damaged drawing can be shown."""
+    """The drawing that records say, with plain zeros, so that points on the grid are the same where their patterns are. What does
+    not fit its kind is passed over, so that a damaged drawing can be shown."""
     fitting = [r for r in records if length_fits(r.kind, len(r.body))]
     found = [settings_in(r.body) for r in fitting if r.kind == SETTINGS]
     return Drawing(found[0] if found else Settings(0, 0, GREEDY, 0),

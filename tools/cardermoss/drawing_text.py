@@ -8,9 +8,10 @@ A row is one of these; '#' starts a comment, and a row with nothing else is pass
     line (X, Y) (X, Y) ..
     link line L segment S (X, Y) to line M segment T (X, Y)
 
-Numbers are decimals or fractions (4, -0.5, 3/1024), in pixels. `segment S` may be left out where the point lies on a
-segment of its line. For files that no planner takes there are also: a number for pairing or flags, `bits:HEX` for a
-coordinate, `record KIND HEX` for a whole record and `bytes HEX` for a row of bytes, so that every file has a text.
+Numbers are decimals or fractions (4, -0.5, 3/1024), in pixels. -0 is minus zero, which the file then holds and the planner
+reads as 0. `segment S` may be left out where the point lies on a segment of its line. For files that no planner takes there
+are also: a number for pairing or flags, `bits:HEX` for a coordinate, `record KIND HEX` for a whole record and `bytes HEX` for a
+row of bytes, so that every file has a text.
 """
 import re
 import struct
@@ -27,14 +28,14 @@ FLAGS = {" ".join(word for word, bit in FLAG_WORDS.items() if flags & bit) or "n
 
 def coordinate_text(bits):
     """A coordinate's shortest text that reads back as the same pattern; exact where it is on the grid."""
+    if bits == f.MINUS_ZERO:
+        return "-0"
     steps = f.steps_of(bits)
     if steps is not None:
         return steps_text(steps)
     value = f.float_of(bits)
     if value - value != 0:  # an infinity, or no number
         return f"bits:{bits:016x}"
-    if bits == f.NEGATIVE_ZERO:
-        return "-0"
     return repr(value)[:-2] if repr(value).endswith(".0") else repr(value)
 
 
@@ -69,10 +70,9 @@ def text_of(file):
             rows.append(f"pairing {word_of(PAIRINGS, s.pairing)}")
             rows.append(f"flags {word_of(FLAGS, s.flags)}")
         elif r.kind == f.LINE:
-            rows.append(" ".join(["line", *map(point_text, f.points_in(r.body))]))
+            rows.append(" ".join(["line", *map(point_text, f.points_in(r.body, f.as_it_stands))]))
         else:
-            l = f.link_in(r.body)
-            rows.append(link_text(l))
+            rows.append(link_text(f.link_in(r.body, f.as_it_stands)))
     if cut is not None:
         rows.append(f"bytes {file[cut:].hex()}")
     return "".join(row + "\n" for row in rows)
@@ -200,8 +200,7 @@ class Text:
         except (ZeroDivisionError, OverflowError):
             raise Unreadable(f"'{word}' is no number that a file can hold") from None
         if value == 0 and word[0] == "-":
-            self.off.append((self.row, f"{word} has a minus sign: write 0"))
-            return f.NEGATIVE_ZERO
+            return f.MINUS_ZERO
         if abs(value) > f.REACH:
             self.off.append((self.row, f"{word} lies outside -{f.REACH:,} to {f.REACH:,}"))
         elif (value * f.STEPS).denominator != 1:
@@ -228,7 +227,8 @@ class Text:
             return line, 0, point  # that row was told already
         if line not in self.in_steps and line < len(self.lines):
             self.in_steps[line] = [f.in_steps(p) for p in self.lines[line]]
-        on = segments_with(self.in_steps.get(line, []), f.in_steps(point))
+        here = f.in_steps(point)  # the patterns of one place may differ: 0 and -0
+        on = segments_with(self.in_steps.get(line, []), here)
         if segment is not None:
             segment = whole(segment, 0xFFFF)
             points = len(self.lines[line]) if line < len(self.lines) else 0
@@ -242,7 +242,7 @@ class Text:
             raise Unreadable(f"there is no line {line}")
         if not on:
             raise Unreadable(f"{point_text(point)} lies on no segment of line {line}: name one, which will bend to it")
-        at_an_end = [s for s in on if point in self.lines[line][s:s + 2]]
+        at_an_end = [s for s in on if here in self.in_steps[line][s:s + 2]]
         if len(on) > 1 and not at_an_end:
             raise Unreadable(f"{point_text(point)} lies on the segments {', '.join(map(str, on))} of line {line}: name one")
         return line, (at_an_end or on)[0], point

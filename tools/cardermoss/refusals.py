@@ -43,7 +43,7 @@ CONDITIONS = {
          "With `link` among the flags the planner links the lines itself, and the file holds no links: take them out, or take `link` "
          "away, and these are drawn and no others: they must then join all lines."),
     7: ("a coordinate is not on the grid",
-        f"Coordinates are whole multiples of 1/{f.STEPS} from -{f.REACH:,} to {f.REACH:,}, and zero has no minus sign: move the point."),
+        f"Coordinates are whole multiples of 1/{f.STEPS} from -{f.REACH:,} to {f.REACH:,}: move the point."),
     8: ("a link names a line or a segment that is not there",
         "Lines and segments are counted from 0; a line of n points has the segments 0 to n - 2, and a dot has segment 0. "
         "An empty line can't be linked."),
@@ -215,8 +215,6 @@ def off_in(point, where, number):
 
 def off_words(bits):
     value = f.float_of(bits)
-    if bits == f.NEGATIVE_ZERO:
-        return "is zero with a minus sign"
     if math.isnan(value) or math.isinf(value):
         return f"is no number ({value})"
     if abs(value) > f.REACH:

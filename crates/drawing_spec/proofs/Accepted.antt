@@ -1,6 +1,6 @@
 -- Laws of specs/Accepted.
 use mathlib.Core.Path.{_≡_, refl, sym, ap, _∙_}
-use mathlib.Core.List.{List, [], _∷_, map}
+use mathlib.Core.List.{List, [], _∷_, _++_, map}
 use mathlib.Core.Bool.{Bool, true, not, _||_}
 use Prim.Native.Nat.{ℕ}
 use native.Mathlib.Omega.{arith}
@@ -15,9 +15,13 @@ use Rattle.drawing_spec.proofs.Same.{both}
 use Rattle.drawing_spec.specs.Refusal.{accepted, verdict, until, holds}
 use Rattle.drawing_spec.proofs.Refusal.{fails, accepted-before}
 use Rattle.drawing_spec.proofs.Placed.{counts-placed, own-links-placed, links-placed}
-use Rattle.drawing_spec.specs.Read.{sketchOf, drawingOf, every, kindsFit, lengthsFit, settingsFit, countsFit, ownLinksFit, coordinatesFit, linksFit, recordsOf, readConditions}
+use Rattle.drawing_spec.specs.Read.{sketchOf, drawingOf, every, kindsFit, lengthsFit, settingsFit, countsFit, ownLinksFit, coordinatesFit, linksFit, recordsOf, recordConditions, sketchConditions, readConditions}
 use Rattle.drawing_spec.specs.Accepted.{Passed, Counts, InLimits}
 use Rattle.drawing_spec.proofs.OnGrid.{lines-on, links-on}
+
+pub conditions-are : (file : List ℕ) → readConditions file ≡ recordConditions file ++ sketchConditions (sketchOf (recordsOf file))
+unfolding readConditions
+conditions-are file = refl
 
 -- ---- where none of the conditions before check 8 holds, each check passes
 

@@ -5,11 +5,38 @@ use mathlib.Core.Bool.{_&&_}
 use Prim.Native.Nat.{ℕ, zero, suc, _-_}
 use lib.ListN.{length, getD, drop, length-map}
 use lib.Dec.{leb, ltb}
-use Rattle.limits.specs.Limits.{kindLine, kindLink}
+use Rattle.limits.specs.Limits.{kindSettings, kindLine, kindLink}
 use Rattle.grid.specs.Grid.{readPlace, placeAt}
 use Rattle.drawing_spec.specs.Bytes.{number}
 use Rattle.drawing_spec.specs.Drawing.{PointOf, EndOf, LinkOf, Link, DrawingOf, overPoint, overEnd, overLink, over}
-use Rattle.drawing_spec.specs.Read.{Record, placed, spotsOfLine, sketchedLink, bodies, sketchOf, drawingOf, point, points, pointsOfLine, linkOf, every, countsFit, ownLinksFit, endFits, linksFit}
+use Rattle.drawing_spec.specs.Read.{Record, placed, spot, spots, settingsOf, spotsOfLine, sketchedLink, bodies, sketchOf, drawingOf, point, points, pointsOfLine, linkOf, every, countsFit, ownLinksFit, endFits, linksFit}
+
+-- ---- what the bodies hold, part by part
+
+pub spot-parts : (bs : List ℕ) → spot bs ≡ record { x = record { bits = number 8 bs }; y = record { bits = number 8 (drop 8 bs) } }
+unfolding spot
+spot-parts bs = refl
+
+pub spots-one : (m : ℕ) (bs : List ℕ) → spots (suc m) bs ≡ spot bs ∷ spots m (drop 16 bs)
+unfolding spots
+spots-one m bs = refl
+
+pub no-spots : (bs : List ℕ) → spots zero bs ≡ []
+unfolding spots
+no-spots bs = refl
+
+pub link-parts : (bs : List ℕ)
+    → sketchedLink bs
+    ≡ record {
+      first = record { line = number 2 bs; segment = number 2 (drop 2 bs); point = spot (drop 8 bs) };
+      second = record { line = number 2 (drop 4 bs); segment = number 2 (drop 6 bs); point = spot (drop 24 bs) };
+    }
+unfolding sketchedLink
+link-parts bs = refl
+
+pub sketch-parts : (rs : List Record) → sketchOf rs ≡ record { settings = settingsOf (getD (bodies kindSettings rs) 0 []); lines = map spotsOfLine (bodies kindLine rs); links = map sketchedLink (bodies kindLink rs) }
+unfolding sketchOf
+sketch-parts rs = refl
 
 -- ---- the drawing of a file's records, body by body
 
@@ -51,7 +78,7 @@ no-points bs = refl
 -- ---- checks 6, 15 and 8 do not look at coordinates
 
 module _ {A B : Type 0} (f : A → B) where
-  lengths-over : (ls : List (List (PointOf A))) → map (λ (l : List (PointOf B)). length l) (map (map (overPoint f)) ls) ≡ map (λ (l : List (PointOf A)). length l) ls
+  pub lengths-over : (ls : List (List (PointOf A))) → map (λ (l : List (PointOf B)). length l) (map (map (overPoint f)) ls) ≡ map (λ (l : List (PointOf A)). length l) ls
   lengths-over ls = map-map (λ (l : List (PointOf B)). length l) (map (overPoint f)) ls ∙ (λ i. map (λ (l : List (PointOf A)). length-map l (overPoint f) i) ls)
 
   pub counts-over : (d : DrawingOf A) → countsFit (over f d) ≡ countsFit d

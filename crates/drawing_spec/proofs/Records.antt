@@ -1,13 +1,14 @@
 -- Records in the order of check 3, and the bodies of a kind among them.
-use Prim.Native.Nat.{ℕ}
+use Prim.Native.Nat.{ℕ, _%_}
 use native.Mathlib.Omega.{arith}
 use mathlib.Core.Path.{_≡_, refl, _∙_}
 use mathlib.Core.List.{List, [], _∷_}
-use mathlib.Core.Bool.{true}
+use mathlib.Core.Bool.{Bool, true, _&&_}
+use lib.ListN.{length}
 use lib.Dec.{eqb}
 use borrow.Author.Tests.{eqb-true, eq-eqb, ne-eqb}
-use Rattle.limits.specs.Limits.{kindSettings, kindLine, kindLink}
-use Rattle.drawing_spec.specs.Read.{Record, bodies, every, allLinks, linesThenLinks, kindsFit}
+use Rattle.limits.specs.Limits.{kindSettings, kindLine, kindLink, settingsSize, pointSize, linkSize}
+use Rattle.drawing_spec.specs.Read.{Record, bodies, every, allLinks, linesThenLinks, kindsFit, lengthsFit}
 use Rattle.drawing_spec.proofs.Same.{both}
 
 -- ---- bodies of a kind, at the front
@@ -35,3 +36,21 @@ pub links-no-lines : (rs : List Record) → allLinks rs ≡ true → bodies kind
 unfolding bodies
 links-no-lines [] h = refl
 links-no-lines (r ∷ rs) h = let t = links-cons r rs h in let k = t .0 in bodies-other kindLine r rs (λ q. omega arith) ∙ links-no-lines rs (t .1)
+
+-- ---- check 4, kind by kind
+
+abbrev pub settingsLong : List Record → Bool
+settingsLong rs = every (λ (b : List ℕ). eqb (length b) settingsSize) (bodies kindSettings rs)
+
+abbrev pub linesLong : List Record → Bool
+linesLong rs = every (λ (b : List ℕ). eqb (length b % pointSize) 0) (bodies kindLine rs)
+
+abbrev pub linksLong : List Record → Bool
+linksLong rs = every (λ (b : List ℕ). eqb (length b) linkSize) (bodies kindLink rs)
+
+pub lengths-parts : (rs : List Record) → lengthsFit rs ≡ true → (settingsLong rs ≡ true) × (linesLong rs ≡ true) × (linksLong rs ≡ true)
+unfolding lengthsFit
+lengths-parts rs h =
+    let t = both (settingsLong rs && linesLong rs) (linksLong rs) h in
+    let u = both (settingsLong rs) (linesLong rs) (t .0) in
+    (u .0, u .1, t .1)

@@ -10,6 +10,13 @@ both true true e = (refl, refl)
 both true false e = (refl, e)
 both false t e = (e, cc)
 
+-- two tests that hold together
+pub same-tests : (s t : Bool) → (s ≡ true → t ≡ true) → (t ≡ true → s ≡ true) → s ≡ t
+same-tests true true f g = refl
+same-tests true false f g = sym (f refl)
+same-tests false true f g = g refl
+same-tests false false f g = refl
+
 pub same-true : (p q : Point) → same p q ≡ true → p ≡ q
 same-true p q e = let t = both (eqb (p .x) (q .x)) (eqb (p .y) (q .y)) e in λ i. record { x = eqb-true (p .x) (q .x) (t .0) i; y = eqb-true (p .y) (q .y) (t .1) i }
 

@@ -12,7 +12,7 @@ use Rattle.drawing_spec.specs.Refusal.{Condition, condition, verdict, ho
 use Rattle.drawing_spec.proofs.Refusal.{without, one-fewer}
 use Rattle.drawing_spec.specs.Read.{recordsOf, isCut, sketchOf, kindsFit, lengthsFit, settingsFit, countsFit, ownLinksFit, coordinatesFit, linksFit, readConditions}
 
--- ---- the eight conditions that document 01 has, in its order: flags run to 3, and there is no number 15
+-- ---- the eight conditions that document 01 has, in its order: flags run to 3, and there is no number 15; 7 is without the clause that CR 3 ended
 
 abbrev pub settingsBefore : Settings → Bool
 settingsBefore s = leb (s .width) 8192 && leb (s .height) 8192 && leb (s .pairing) 1 && leb (s .flags) 3

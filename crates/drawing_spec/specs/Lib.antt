@@ -7,6 +7,8 @@ pub mod Drawing
 pub mod Refusal
 -- from a file's bytes to its drawing, and the checks:
 pub mod Read
+-- a sketch and a file with a plain zero for each minus zero:
+pub mod Cleaned
 -- Predicates that contracts and laws name: of points on the grid, of what the checks leave:
 pub mod OnGrid
 pub mod Accepted

@@ -1,11 +1,13 @@
 -- What a record read holds: the code's types, from the values that document 01's definitions give.
 use Prim.Native.Nat.{ℕ, _/_, _%_}
+use mathlib.Core.Path.{_≡_}
 use mathlib.Core.List.{List}
 use mathlib.Core.Bool.{Bool, cond}
 use lib.ListN.{length}
 use lib.Dec.{eqb, leb}
+use lib.Ieee.{binary64, toBits}
 use Rattle.limits.specs.Limits.{kindSettings, kindLine, kindLink, settingsSize, pointSize, linkSize}
-use Rattle.grid.specs.Grid.{coordinate}
+use Rattle.grid.specs.Grid.{minusZero, coordinate}
 use Rattle.drawing_spec.specs.Drawing as drawn
 use Rattle.drawing_spec.specs.Read.{settingsOf, linkOf}
 use Rattle.file_records.specs.declared.Settings.{Settings}
@@ -32,6 +34,13 @@ edgeFrom l = record {
   «point_a» = pointFrom (l .first .point);
   «point_b» = pointFrom (l .second .point);
 }
+
+-- no float of the link is a minus zero
+pub record EdgePlain (e : MstEdge) : Type 0 where
+  pub ax : toBits binary64 (e .«point_a» .x) ≡ minusZero → ⊥
+  pub ay : toBits binary64 (e .«point_a» .y) ≡ minusZero → ⊥
+  pub bx : toBits binary64 (e .«point_b» .x) ≡ minusZero → ⊥
+  pub by : toBits binary64 (e .«point_b» .y) ≡ minusZero → ⊥
 
 -- document 01's values for each case of `Body`: of a record that stands whole in the file, by its kind and its length
 unfoldable pub bodyRead : List ℕ → ℕ → Body

@@ -5,7 +5,7 @@ use mathlib.Core.List.{[], _∷_, map}
 use mathlib.Core.Bool.{true, false}
 use lib.Dec.{lit<}
 use Rattle.grid.specs.declared.Place.the-variants.{On, Off}
-use Rattle.grid.specs.Grid.{origin, originOfGrid, nowhere, placeAt, onGrid, readOnGrid, readPlace}
+use Rattle.grid.specs.Grid.{origin, originOfGrid, nowhere, placeAt, onGrid, minusZero, clean, readOnGrid, readPlace}
 
 -- 0, 1/1024, -1, 4096 and -4096
 on-the-grid : map readPlace (0 ∷ 0x3F50000000000000 ∷ 0xBFF0000000000000 ∷ 0x40B0000000000000 ∷ 0xC0B0000000000000 ∷ [])
@@ -13,9 +13,15 @@ on-the-grid : map readPlace (0 ∷ 0x3F50000000000000 ∷ 0xBFF0000000000000 ∷
 unfolding readOnGrid
 on-the-grid = refl
 
-minus-zero : readPlace 0x8000000000000000 ≡ Off
+-- minus zero, and a step below it
+minus-zero : map readPlace (minusZero ∷ 0xBF50000000000000 ∷ []) ≡ On origin ∷ On (origin - 1) ∷ []
 unfolding readOnGrid
 minus-zero = refl
+
+-- minus zero cleaned; plain zero, the patterns beside minus zero, and -1, which stay
+cleaned : map clean (0x8000000000000000 ∷ 0 ∷ 0x7FFFFFFFFFFFFFFF ∷ 0x8000000000000001 ∷ 0xBFF0000000000000 ∷ []) ≡ 0 ∷ 0 ∷ 0x7FFFFFFFFFFFFFFF ∷ 0x8000000000000001 ∷ 0xBFF0000000000000 ∷ []
+unfolding clean
+cleaned = refl
 
 -- 1/2048; 1 and -1 with the lowest of the 52 digits set
 between-steps : map readPlace (0x3F40000000000000 ∷ 0x3FF0000000000001 ∷ 0xBFF0000000000001 ∷ []) ≡ Off ∷ Off ∷ Off ∷ []

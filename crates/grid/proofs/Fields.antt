@@ -2,7 +2,7 @@
 -- below 1023 - g that is less than one step, and where it is above 1035 it is more than 4,096. Assumes nothing.
 use mathlib.Core.Path.{_≡_, refl, sym, ap, _∙_, subst}
 use Prim.Native.Nat.{ℕ, zero, suc, _+_, _-_, _*_, _/_, _%_, _^_, _≤_, _<_}
-use native.Mathlib.Nat.{mul-assoc, zero-mul, mul-pos, mod-eq-of-lt, div-add-mod', div-mul-le-self, le-div-iff-mul-le, mul-le-mul-right, mul-lt-mul-of-pos-right, lt-of-lt-of-le, lt-of-le-of-lt, le-trans, le-of-eq, eq-or-lt-of-le, eq-zero-or-pos}
+use native.Mathlib.Nat.{mul-assoc, mul-pos, mod-eq-of-lt, div-add-mod', div-mul-le-self, le-div-iff-mul-le, mul-le-mul-right, mul-lt-mul-of-pos-right, lt-of-lt-of-le, lt-of-le-of-lt, le-trans, le-of-eq, eq-or-lt-of-le, eq-zero-or-pos}
 use native.Mathlib.Omega.{arith}
 use mathlib.Core.Logic.{inl, inr}
 use mathlib.Core.Bool.{Bool, true, false, and-false, cond}
@@ -11,7 +11,7 @@ use lib.Pow.{pow-add, pow-pos, pow-mono, shl-lt, field}
 use lib.Ieee.{nan, inf, Format, binary64, prec, low, odd, hid, ones, ofFields, ofBits}
 use lib.Ieee.Exact.{odd-sign}
 use lib.Ieee.Bits.{cond-no}
-use borrow.Author.Tests.{le-leb, lt-leb, ne-eqb}
+use borrow.Author.Tests.{lt-leb, ne-eqb}
 use Rattle.grid.specs.declared.Place.the-variants.{Off}
 use Rattle.grid.specs.Grid.{originOfGrid, placeOfSteps, placeOnGrid, readOnGrid}
 use Rattle.grid.proofs.Same.{same-steps, place-of-value}
@@ -24,9 +24,6 @@ part-of-step o s a c h = simp (ne-eqb (a % c) 0 (λ e. omega arith))
 
 pub too-far : (o : ℕ) (s : Bool) (a c : ℕ) → o < a / c → placeOfSteps o s a c ≡ Off
 too-far o s a c h = simp (lt-leb (a / c) o h, and-false)
-
-negative-zero : (o c : ℕ) → placeOfSteps o true 0 c ≡ Off
-negative-zero o c = simp and-false
 
 -- less than one step, and not zero
 under-one : (o : ℕ) (s : Bool) (a c : ℕ) → 0 < a → a < c → placeOfSteps o s a c ≡ Off
@@ -90,16 +87,11 @@ module _ (g b : ℕ) where
       under-one (originOfGrid g) (negative b) (q * 2 ^ x * 2 ^ g) (2 ^ 1074) (mul-pos (mul-pos p (pow-pos x)) (pow-pos g))
       (lt-of-lt-of-le (shl-lt (n + x) g (shl-lt n x h)) (pow-mono k))
 
-  pub read-below : b < 2 ^ 64 → (b ≡ 0 → ⊥) → exponent b + g < 1023 → readOnGrid g b ≡ Off
+  pub read-below : b < 2 ^ 64 → (b % 2 ^ 63 ≡ 0 → ⊥) → exponent b + g < 1023 → readOnGrid g b ≡ Off
   read-below B some h = go (exponent b) (digits b) refl refl
     where
       go : (x t : ℕ) → exponent b ≡ x → digits b ≡ t → readOnGrid g b ≡ Off
-      go zero zero e d =
-          let n : negative b ≡ true = le-leb (2 ^ 63) b (omega arith) in
-          read-low e
-          ∙ ap (λ (s : Bool). placeOfSteps (originOfGrid g) s (digits b * 2 ^ 0 * 2 ^ g) (2 ^ 1074)) n
-          ∙ ap (λ (a : ℕ). placeOfSteps (originOfGrid g) true a (2 ^ 1074)) (ap (λ (t : ℕ). t * 1 * 2 ^ g) d ∙ zero-mul (2 ^ g))
-          ∙ negative-zero (originOfGrid g) (2 ^ 1074)
+      go zero zero e d = absurd (omega arith)
       go zero (suc t) e d = read-low e ∙ small 52 (digits b) 0 (omega arith) (omega arith) (omega arith)
       go (suc x) t e d = read-mid x e (omega arith) ∙ small 53 (2 ^ 52 + digits b) x (omega arith) (omega arith) (omega arith)
 

@@ -1,13 +1,11 @@
 -- The place of ±a / c steps turns on the number a / c alone, and not on how it is written. Assumes nothing.
 use mathlib.Core.Path.{_≡_, refl, sym, ap, _∙_}
 use Prim.Native.Nat.{ℕ, _+_, _-_, _*_, _/_, _%_, _^_, _≤_, _<_}
-use native.Mathlib.Nat.{mul-comm, mul-right-comm, mul-div-mul-right, mul-mod-left, div-add-mod', eq-of-mul-eq-mul-right, zero-mul, add-zero}
-use native.Mathlib.Omega.{arith}
-use mathlib.Core.Bool.{Bool, true, false, true≢false, not, _&&_, cond}
-use lib.Dec.{T, leb, eqb, eqb→eq, leb→le, not-T}
+use native.Mathlib.Nat.{mul-comm, mul-right-comm, mul-div-mul-right, mul-mod-left, div-add-mod', eq-of-mul-eq-mul-right, add-zero}
+use mathlib.Core.Bool.{Bool, true, false, true≢false, _&&_, cond}
+use lib.Dec.{T, leb, eqb, eqb→eq, leb→le}
 use lib.Ieee.{Float, nan, inf, fin, up, down}
 use lib.Ieee.Exact.{HasValue}
-use lib.Ieee.Bits.{is-true}
 use borrow.Author.Tests.{le-leb, eq-eqb}
 use lib.Ieee.Fits.{and-l, and-r, eq→eqb, down-pos}
 use Rattle.grid.specs.declared.Place.the-variants.{On, Off}
@@ -38,15 +36,11 @@ module _ (a c b d : ℕ) (C : 0 < c) (D : 0 < d) (h : a * d ≡ b * c) where
       let b-is : n * d ≡ b = eq-of-mul-eq-mul-right c C (n * d) b (mul-right-comm n d c ∙ ap (λ (x : ℕ). x * d) (sym (divided a c w)) ∙ h) in
       ap (λ (x : ℕ). x % d) (sym b-is) ∙ mul-mod-left n d
 
-  none : a ≡ 0 → b ≡ 0
-  none z = eq-of-mul-eq-mul-right c C b 0 (sym h ∙ ap (λ (x : ℕ). x * d) z ∙ zero-mul d ∙ sym (zero-mul c))
-
 pub same-steps : (o : ℕ) (s : Bool) (a c b d : ℕ) → 0 < c → 0 < d → a * d ≡ b * c → placeOfSteps o s a c ≡ placeOfSteps o s b d
 same-steps o s a c b d C D h =
     let quotient : a / c ≡ b / d = same-quotient a c b d C D h in
     let wholes : eqb (a % c) 0 ≡ eqb (b % d) 0 =
     same-test (eqb (a % c) 0) (eqb (b % d) 0) (λ t. eq→eqb (whole a c b d C D h (eqb→eq (a % c) 0 t))) (λ t. eq→eqb (whole b d a c D C (sym h) (eqb→eq (b % d) 0 t))) in
-    let zeros : eqb a 0 ≡ eqb b 0 = same-test (eqb a 0) (eqb b 0) (λ t. eq→eqb (none a c b d C D h (eqb→eq a 0 t))) (λ t. eq→eqb (none b d a c D C (sym h) (eqb→eq b 0 t))) in
     cc
 
 -- a float's place, from any fraction that says its size
@@ -61,32 +55,21 @@ place-of-value g (fin t m e) s a c C v =
 
 -- ---- what it takes to be at a place
 
-pub at-place : (o : ℕ) (s : Bool) (a c : ℕ) → a % c ≡ 0 → a / c ≤ o → T (not (s && eqb a 0)) → placeOfSteps o s a c ≡ On (cond s (o - a / c) (o + a / c))
-at-place o s a c w h plain = simp (eq-eqb (a % c) 0 w, le-leb (a / c) o h, is-true (not (s && eqb a 0)) plain)
+pub at-place : (o : ℕ) (s : Bool) (a c : ℕ) → a % c ≡ 0 → a / c ≤ o → placeOfSteps o s a c ≡ On (cond s (o - a / c) (o + a / c))
+at-place o s a c w h = simp (eq-eqb (a % c) 0 w, le-leb (a / c) o h)
 
-pub not-negative-zero : (s : Bool) (a : ℕ) → 0 < a → T (not (s && eqb a 0))
-not-negative-zero true a h = not-T (eqb a 0) (λ t. let z = eqb→eq a 0 t in omega arith)
-not-negative-zero false a h = tt
-
--- what check 7 found of ±a / c steps that it put at p; `plain` is that they are not negative zero
+-- what check 7 found of ±a / c steps that it put at p
 pub record Passed (o : ℕ) (s : Bool) (a c p : ℕ) : Type 0 where
   pub is-whole : a % c ≡ 0
   pub near : a / c ≤ o
-  pub plain : T (not (s && eqb a 0))
   pub is : p ≡ cond s (o - a / c) (o + a / c)
 
 pub passed : (o : ℕ) (s : Bool) (a c p : ℕ) → placeOfSteps o s a c ≡ On p → Passed o s a c p
-passed o s a c p h = go (eqb (a % c) 0 && leb (a / c) o && not (s && eqb a 0)) (λ t. t) h
+passed o s a c p h = go (eqb (a % c) 0 && leb (a / c) o) (λ t. t) h
   where
-    go : (t : Bool) → (T t → T (eqb (a % c) 0 && leb (a / c) o && not (s && eqb a 0))) → cond t (On (cond s (o - a / c) (o + a / c))) Off ≡ On p → Passed o s a c p
+    go : (t : Bool) → (T t → T (eqb (a % c) 0 && leb (a / c) o)) → cond t (On (cond s (o - a / c) (o + a / c))) Off ≡ On p → Passed o s a c p
     go true k e =
         let w = eqb (a % c) 0 in
         let n = leb (a / c) o in
-        let z = not (s && eqb a 0) in
-        record {
-          is-whole = eqb→eq (a % c) 0 (and-l w n (and-l (w && n) z (k tt)));
-          near = leb→le (a / c) o (and-r w n (and-l (w && n) z (k tt)));
-          plain = and-r (w && n) z (k tt);
-          is = cc;
-        }
+        record { is-whole = eqb→eq (a % c) 0 (and-l w n (k tt)); near = leb→le (a / c) o (and-r w n (k tt)); is = cc }
     go false k e = absurd (true≢false (cc))

@@ -1,8 +1,8 @@
 -- Coordinates on the grid of document 01, and their places. Definitions only.
 -- A file holds a coordinate as the 64 bits of an f64. On a grid of 1 / 2 ^ g it is a whole number of steps of that size, from -reach to reach. Its place is its number of
--- steps from -reach, which is never negative: the signed number of grid steps that document 01 speaks of is the place less the origin, the place of 0.
+-- steps from -reach, which is never negative: the signed number of grid steps that document 01 speaks of is the place less the origin, the place of 0. Minus zero is a zero.
 use Prim.Native.Nat.{ℕ, _+_, _-_, _*_, _/_, _%_, _^_}
-use mathlib.Core.Bool.{Bool, true, false, not, _&&_, cond}
+use mathlib.Core.Bool.{Bool, true, false, _&&_, cond}
 use lib.Dec.{leb, ltb, eqb}
 use lib.Ieee.{Float, nan, inf, fin, up, down, binary64, round, ofBits, toBits}
 use Rattle.grid.specs.declared.Place.{Place}
@@ -22,9 +22,9 @@ reach = 4096
 abbrev pub originOfGrid : ℕ → ℕ
 originOfGrid g = reach * 2 ^ g
 
--- The place of ±a / c steps, for a c above 0, with the origin at o. It is check 7: a / c is a whole number, is at most o, and is not negative zero.
+-- The place of ±a / c steps, for a c above 0, with the origin at o. It is check 7: a / c is a whole number, and is at most o. Both zeros lie at the origin.
 abbrev pub placeOfSteps : ℕ → Bool → ℕ → ℕ → Place
-placeOfSteps o s a c = cond (eqb (a % c) 0 && leb (a / c) o && not (s && eqb a 0)) (On (cond s (o - a / c) (o + a / c))) Off
+placeOfSteps o s a c = cond (eqb (a % c) 0 && leb (a / c) o) (On (cond s (o - a / c) (o + a / c))) Off
 
 -- the place of a float: m * up e / down e in size, and so 2 ^ g times that many steps
 unfoldable pub placeOnGrid : ℕ → Float → Place
@@ -49,6 +49,18 @@ placeAt Off = nowhere
 abbrev pub onGrid : Place → Bool
 onGrid (On p) = true
 onGrid Off = false
+
+-- ---- minus zero
+
+-- its pattern: the sign, and nothing else
+abbrev pub minusZero : ℕ
+minusZero = 2 ^ 63
+
+-- a pattern, with that of plain zero in place of that of minus zero
+unfoldable pub clean : ℕ → ℕ
+clean b = cond (eqb b minusZero) 0 b
+
+-- ---- from a place to its float and its pattern
 
 -- how far apart two numbers are
 abbrev pub gap : ℕ → ℕ → ℕ

@@ -1,6 +1,6 @@
 // Coordinates: from the 64 bits that a file holds to a place on the grid, and back.
 ghost use mathlib.Core.Path.{_≡_};
-ghost use Rattle.grid.specs.Grid.{readPlace, placeAt, onGrid, coordinate, writePlace};
+ghost use Rattle.grid.specs.Grid.{readPlace, placeAt, onGrid, clean, coordinate, writePlace};
 
 // Where a coordinate lies: so many grid steps from -4,096, or not on the grid.
 pub enum Place {
@@ -30,17 +30,18 @@ const LARGEST: u64 = 1035;
 // The field at which all 52 digits below the leading one count whole steps.
 const ALL_WHOLE: u64 = 1065;
 
-// Check 7, for every pattern: the place, or Off. Below the field of one step nothing but 0 is a
-// whole number of steps, and above that of the largest coordinate all is too large. In between, the
-// digits with the leading one are shifted down to whole steps, and what is shifted out must be 0.
+// Check 7, for every pattern: the place, or Off. Below the field of one step nothing but 0 is a whole
+// number of steps, and 0 is at the origin, whatever its sign. Above that of the largest coordinate all
+// is too large. In between, the digits with the leading one are shifted down to whole steps, and what
+// is shifted out must be 0. A zero is not asked for first of all, since most coordinates are not 0.
 pub fn read_place(bits: u64) -> Place
     ensures { λ r. ⌜ r ≡ readPlace bits ⌝ }
 {
-    if bits == 0 {
-        return Place::On(ORIGIN);
-    }
     let field = bits / LEADING % 2048;
     if field < ONE_STEP {
+        if bits % SIGN == 0 {
+            return Place::On(ORIGIN);
+        }
         return Place::Off;
     }
     if field > LARGEST {
@@ -81,6 +82,13 @@ pub fn place_number(place: Place) -> u32
         Place::On(at) => at,
         Place::Off => NOWHERE,
     }
+}
+
+// A pattern with plain zero for minus zero, which is how a coordinate is saved.
+pub fn clean(bits: u64) -> u64
+    ensures { λ r. ⌜ r ≡ clean bits ⌝ }
+{
+    if bits == SIGN { 0 } else { bits }
 }
 
 // The coordinate at a place. Every u32 is far below 2^53, so nothing is rounded.

@@ -1,5 +1,6 @@
 // Replays tools/grid_vectors.py's patterns against `grid`: each is read, and where it is on the grid
-// its place is written back. It prints how many there were and how many came out otherwise.
+// its place is written back, which gives the pattern, with plain zero for minus zero. It prints how
+// many there were and how many came out otherwise.
 use grid::Place;
 ghost use Prim.Native.Nat.{_+_, _≤_};
 ghost use lib.ListN.{length};
@@ -10,14 +11,15 @@ const LINE: usize = 28;
 // What the file has in the place of a place where a pattern is not on the grid.
 const OFF: u64 = 0xffff_ffff;
 
-// Whether a pattern is read as the place that the file says, and that place is written as the pattern.
+// Whether a pattern is read as the place that the file says, and that place is written as the
+// pattern, cleaned.
 fn read_right(bits: u64, place: u64) -> bool {
     match grid::read_place(bits) {
         Place::On(p) => {
             if p as u64 != place {
                 return false;
             }
-            grid::write_place(p) == bits
+            grid::write_place(p) == grid::clean(bits)
         }
         Place::Off => place == OFF,
     }

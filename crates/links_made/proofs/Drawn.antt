@@ -14,6 +14,7 @@ use borrow.Author.Tests.{ltb-true, lt-ltb}
 use Rattle.limits.specs.Limits.{mostLinks}
 use Rattle.lists.specs.Members.{All}
 use Rattle.drawing_spec.specs.Drawing.{Point, noPoint}
+use Rattle.drawing_spec.proofs.Same.{same-tests}
 use Rattle.file_records.specs.Body.{pointFrom, edgeFrom}
 use Rattle.file_records.specs.declared.MstEdge.{MstEdge}
 use Rattle.file_drawing.specs.Back.{pointsBack, linesBack}
@@ -24,7 +25,7 @@ use Rattle.links_spec.proofs.Candidates.{there}
 use Rattle.links_spec.proofs.Made.{made-links-all}
 use Rattle.links_spec.proofs.Same.{made-same}
 use Rattle.links_tree.specs.Packed.{EndsOn, AreCodes, candidateOf, pointIn, isMarked, endLines}
-use Rattle.links_tree.proofs.Cases.{less-or, same-tests}
+use Rattle.links_tree.proofs.Cases.{less-or}
 use Rattle.links_tree.proofs.Marks.{marked-in, is-marked}
 use Rattle.links_tree.proofs.Agree.{lines-length, has-points, line-two}
 use Rattle.links_made.specs.Filled.{Marked, Ended, segmentIn, edgeIn}

@@ -13,6 +13,7 @@ use Rattle.limits.specs.Limits.{mostLines}
 use Rattle.lists.specs.Members.{In, All}
 use Rattle.lists.proofs.Tabulate.{tabulate-length, tabulate-at}
 use Rattle.drawing_spec.specs.Drawing.{Point}
+use Rattle.drawing_spec.proofs.Same.{same-tests}
 use Rattle.graph_spec.specs.Chain.{squared}
 use Rattle.spanning.specs.Order.{Rising, insert}
 use Rattle.spanning.proofs.Counts.{same-or-not}
@@ -23,7 +24,7 @@ use Rattle.links_spec.proofs.Rank.{less-front, less-now, less-later, rank-order
 use Rattle.links_spec.proofs.Candidates.{there}
 use Rattle.links_tree.specs.declared.Ranked.{Ranked}
 use Rattle.links_tree.specs.Packed.{codes, candidateOf, codeOf, pointIn, endsIn, ranked, before, firstOf as firstRanked, nearestOf as nearestRanked, nearestIn, isMarked, endLines, insertIn}
-use Rattle.links_tree.proofs.Cases.{less-or, not-true, same-tests}
+use Rattle.links_tree.proofs.Cases.{less-or, not-true}
 use Rattle.links_tree.proofs.Marks.{marked-in}
 use Rattle.links_tree.proofs.Ranks.{before-key, key-before}
 

@@ -1,5 +1,5 @@
 -- Tests and numbers: which case it is.
-use mathlib.Core.Path.{_≡_, refl, sym}
+use mathlib.Core.Path.{_≡_, refl}
 use mathlib.Core.Logic.{_⊎_, inl, inr}
 use mathlib.Core.Bool.{Bool, true, false}
 use Prim.Native.Nat.{ℕ, _+_, _≤_, _<_}
@@ -22,9 +22,3 @@ below i w l = elim (same-or-not w i) [ inl e ↦ inl e | inr d ↦ inr (omega ar
 pub not-true : (t : Bool) → (t ≡ true → ⊥) → t ≡ false
 not-true true h = absurd (h refl)
 not-true false h = refl
-
-pub same-tests : (s t : Bool) → (s ≡ true → t ≡ true) → (t ≡ true → s ≡ true) → s ≡ t
-same-tests true true f g = refl
-same-tests true false f g = sym (f refl)
-same-tests false true f g = g refl
-same-tests false false f g = refl

@@ -1,10 +1,10 @@
 -- Parts of a list, and stores of one part behind another.
-use Prim.Native.Nat.{ℕ, suc, _+_}
+use Prim.Native.Nat.{ℕ, zero, suc, _+_}
 use native.Mathlib.Nat.{add-zero}
 use native.Mathlib.Numerals.{add-one}
 use native.Mathlib.Omega.{arith}
-use mathlib.Core.Path.{_≡_, sym, ap, _∙_}
-use mathlib.Core.List.{List, [], _∷_, _++_}
+use mathlib.Core.Path.{_≡_, refl, sym, ap, _∙_}
+use mathlib.Core.List.{List, [], _∷_, _++_, map}
 use lib.ListN.{length, getD, drop, set}
 use lib.Seq.{sets, getD-drop, drop-drop}
 
@@ -19,6 +19,11 @@ module _ {A : Type 0} (l : List A) (i : ℕ) (v d : A) (rest : List A) (e : drop
 -- what stands n behind the first m
 pub drop-on : {A : Type 0} (m n : ℕ) (l a b : List A) → drop m l ≡ a → drop n a ≡ b → drop (m + n) l ≡ b
 drop-on m n l a b h k = sym (drop-drop n m l) ∙ ap (drop n) h ∙ k
+
+pub drop-map : {A B : Type 0} (f : A → B) (n : ℕ) (l : List A) → drop n (map f l) ≡ map f (drop n l)
+drop-map f zero l = refl
+drop-map f (suc n) [] = refl
+drop-map f (suc n) (x ∷ l) = drop-map f n l
 
 -- stored in two parts
 pub sets-append : {A : Type 0} (l : List A) (i : ℕ) (a b : List A) → sets l i (a ++ b) ≡ sets (sets l i a) (i + length a) b

@@ -9,8 +9,9 @@ use file_records::Settings;
 use writer::Answer;
 
 // Saves a drawing, whatever is handed in: `save` of crates/writer, with its answer and its destination, and that the bytes in front are the one
-// file that reads back as the drawing. A coordinate is the 64 bits of an f64. Slices of any lengths may be given; 4 says that they do
-// not fit one another. The one equation of `save` stands here as two clauses, since a struct is answered and the destination is lent.
+// file without minus zero that reads back as the drawing. A coordinate is the 64 bits of an f64. Slices of any lengths may be given; 4
+// says that they do not fit one another. The one equation of `save` stands here as two clauses, since a struct is answered and the
+// destination is lent.
 #[no_mangle]
 pub extern "C" fn save_drawing(
     width: u32,

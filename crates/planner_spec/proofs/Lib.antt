@@ -1,5 +1,5 @@
--- Laws of the definitions in specs/. Proved has demand 3, Refuted what it shuts out, EulerLine that the line is Hierholzer's, FileDecides that nothing but the file decides, and
--- Samples the starred drawings.
+-- Laws of the definitions in specs/. Proved has demand 3, Refuted what it shuts out, EulerLine that the line is Hierholzer's, FileDecides that nothing but the file decides,
+-- MinusZero that a file is planned as the cleaned one is, and Samples the starred drawings.
 pub mod AsIfHeld
 pub mod Counted
 pub mod Drawn
@@ -9,6 +9,7 @@ pub mod FileDecides
 pub mod LineEnds
 pub mod LineRecord
 pub mod MadeLinks
+pub mod MinusZero
 pub mod Numbered
 pub mod Plan
 pub mod Proved

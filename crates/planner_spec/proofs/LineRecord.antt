@@ -23,14 +23,14 @@ use Rattle.drawing_spec.proofs.Placed.{point-is, points-one, no-points}
 use Rattle.planner_spec.specs.LineRecord.{pointBytes, lineRecord, lineWritten}
 
 -- a coordinate's pattern has 64 bits
-written-below : (p : ℕ) → writePlace p < 256 ^ 8
+pub written-below : (p : ℕ) → writePlace p < 256 ^ 8
 written-below p = rw (write-is gridExponent p, coordinate-is gridExponent p) (toBits-lt binary64 _ (round-fits binary64 _ _ _))
 
 -- one coordinate, written in 8 bytes and read
 coordinate-back : (p : ℕ) (rest : List ℕ) → p ≤ 2 * origin → placeAt (readPlace (number 8 (bytes 8 (writePlace p) ++ rest))) ≡ p
 coordinate-back p rest h = rw (number-bytes 8 (writePlace p) rest (written-below p), read-write p h)
 
-point-bytes : (p : Point) (ps : List Point) (rest : List ℕ) → pointBytes (p ∷ ps) ++ rest ≡ bytes 8 (writePlace (p .x)) ++ (bytes 8 (writePlace (p .y)) ++ (pointBytes ps ++ rest))
+pub point-bytes : (p : Point) (ps : List Point) (rest : List ℕ) → pointBytes (p ∷ ps) ++ rest ≡ bytes 8 (writePlace (p .x)) ++ (bytes 8 (writePlace (p .y)) ++ (pointBytes ps ++ rest))
 unfolding pointBytes
 point-bytes p ps rest = simp append-assoc
 
@@ -47,7 +47,7 @@ points-back (p ∷ ps) rest a =
     let others : points (length ps) (drop 16 x) ≡ ps = rw dy (points-back ps rest (a .1)) in
     rw (point-bytes p ps rest) (points-one (length ps) x ∙ ap (λ (q : Point). q ∷ points (length ps) (drop 16 x)) (point-is x) ∙ λ i. record { x = px i; y = py i } ∷ others i)
 
-line-record : (line : List Point) (rest : List ℕ) → lineRecord line ++ rest ≡ bytes 4 (16 * length line) ++ (bytes 2 4 ++ (pointBytes line ++ rest))
+pub line-record : (line : List Point) (rest : List ℕ) → lineRecord line ++ rest ≡ bytes 4 (16 * length line) ++ (bytes 2 4 ++ (pointBytes line ++ rest))
 unfolding lineRecord
 line-record line rest = simp append-assoc
 

@@ -90,7 +90,7 @@ module _ (file : List ℕ) where
 
   -- ---- a file without the flag is planned as it was before there was one
 
-  -- by document 01's eight conditions of a file, and from what its records say
+  -- by document 01's eight conditions of a file, 7 as CR 3 left it, and from what its records say
   abbrev pub planBefore : Lent → Outcome
   planBefore lent = elim (verdict (conditionsBefore file)) [ refused n ↦ refuse n lent | accepted ↦ planDrawing records lent ]
 

@@ -125,6 +125,23 @@ example-short : plan exampleFile (record { floats = 0; bytes = 0; output = repli
 unfolding plan exampleFile
 example-short = refl
 
+-- ---- minus zero: a dot at (-0,0); a line (0,0) (-0,0); (0,0) (1,0) and (-0,0) (0,1), which meet in one point. No line that is written has the sign
+
+minusZeroBytes : List ℕ
+minusZeroBytes = replicate 7 0 ++ 128 ∷ []
+
+signedTable : List Case
+unfolding drawn settings line fileRecord minusZeroBytes
+signedTable =
+    drawn (settings 0 0 ++ fileRecord 2 (minusZeroBytes ++ replicate 8 0)) 0 0 0 0 (at 0 0 ∷ [])
+    ∷ drawn (settings 0 0 ++ fileRecord 2 (replicate 16 0 ++ minusZeroBytes ++ replicate 8 0)) 0 0 0 0 (at 0 0 ∷ [])
+    ∷ drawn (settings 0 0 ++ line (at 0 0 ∷ at 1 0 ∷ []) ++ fileRecord 2 (minusZeroBytes ++ replicate 8 0 ++ replicate 14 0 ++ 240 ∷ 63 ∷ [])) 0 0 2 2 (at 0 1 ∷ at 0 0 ∷ at 1 0 ∷ [])
+    ∷ []
+
+signed : map given signedTable ≡ map (λ (c : Case). c .want) signedTable
+unfolding given signedTable
+signed = refl
+
 -- ---- flag 4: the line and the dot without their link, which is made from the line's start, since both its ends are as far
 
 flaggedFile : List ℕ

@@ -11,7 +11,8 @@ use Rattle.drawing_spec.specs.Bytes.{number, bytes, inFront}
 use Rattle.drawing_spec.specs.Drawing.{Point}
 use Rattle.lists.specs.Members.{All}
 use Rattle.drawing_spec.specs.OnGrid.{OnGrid}
-use Rattle.drawing_spec.specs.Read.{points}
+use Rattle.drawing_spec.specs.Read.{spots, points}
+use Rattle.drawing_spec.specs.Cleaned.{PointPlain}
 
 -- ---- written
 
@@ -30,6 +31,10 @@ lineRecord line = bytes 4 (pointSize * length line) ++ bytes 2 kindAnswer ++ poi
 unfoldable pub lineWritten : List ℕ → List Point
 unfolding number points
 lineWritten output = elim (eqb (number 2 (drop 4 output)) kindAnswer) [ true ↦ points (number 4 output / pointSize) (drop headSize output) | false ↦ [] ]
+
+-- no coordinate of so many points in the record at the front of the output is a minus zero
+abbrev pub OutputPlain : ℕ → List ℕ → Type 0
+OutputPlain n output = All PointPlain (spots n (drop headSize output))
 
 -- ---- what it is that the output, which had these bytes before, holds the line
 

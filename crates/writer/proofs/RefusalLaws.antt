@@ -10,7 +10,7 @@ use Rattle.drawing_spec.proofs.Refusal.{one-more, first-holds}
 use Rattle.drawing_spec.specs.Drawing.{linking}
 use Rattle.drawing_spec.specs.Refusal.{accepted, verdict, refusalOf, until, holds}
 use Rattle.drawing_spec.specs.Read.{settingsFit, countsFit, ownLinksFit, coordinatesFit, linksFit}
-use Rattle.writer_spec.specs.File.{fileOf}
+use Rattle.writer_spec.specs.Save.{savedFile}
 use Rattle.writer_spec.specs.Given.{Given, fitting, sketchGiven, givenConditions}
 use Rattle.writer_spec.proofs.Given.{Fitting, fits}
 use Rattle.writer_checks.specs.Checked.{allOn, linksIn}
@@ -106,7 +106,7 @@ module _ (g : Given) (room : ℕ) where
                           unfolding givenConditions until
                           at-destination = one-more (until refusedLinks (givenConditions g room)) refusedLinks _ at-links (ap not (linked true z))
 
-                          long : length (fileOf (sketchGiven g)) ≡ size
+                          long : length (savedFile (sketchGiven g)) ≡ size
                           long = size-is g fit ∙ sym is
 
                           pub refused-destination : room < size → Says refusedDestination

@@ -15,8 +15,7 @@ use Rattle.drawing_spec.specs.Bytes.{inFront}
 use Rattle.drawing_spec.specs.Refusal.{accepted, refusalOf, verdict, holds}
 use Rattle.drawing_spec.proofs.Refusal.{fails, above-zero, number-refused}
 use Rattle.drawing_spec.specs.Read.{total, countsFit}
-use Rattle.writer_spec.specs.File.{fileOf}
-use Rattle.writer_spec.specs.Save.{Saved, refusal, written, answered}
+use Rattle.writer_spec.specs.Save.{savedFile, Saved, refusal, written, answered}
 use Rattle.writer_spec.specs.Given.{Given, fitting, sketchGiven, givenConditions, saveGiven}
 use Rattle.writer_spec.specs.OneFile.{Word, OneFile}
 use Rattle.writer_spec.proofs.Given.{Fitting, fits}
@@ -74,9 +73,9 @@ module _ (g : Given) (d : List ℕ) where
     unfolding givenConditions holds
     counts-taken = not-false (countsFit (sketchGiven g)) (fails (givenConditions g (length d)) taken refusedCounts)
 
-    room-taken : length (fileOf (sketchGiven g)) ≤ length d
+    room-taken : length (savedFile (sketchGiven g)) ≤ length d
     unfolding givenConditions holds
-    room-taken = ltb-false (length d) (length (fileOf (sketchGiven g))) (fails (givenConditions g (length d)) taken refusedDestination)
+    room-taken = ltb-false (length d) (length (savedFile (sketchGiven g))) (fails (givenConditions g (length d)) taken refusedDestination)
 
     pub saved-few : (length (g .sizes) ≤ mostLines) × (length (g .coordinates) / 2 ≤ mostPoints) × (length (g .segments) / 4 ≤ mostLinks)
     saved-few = counts-few g (sym (counts-are g fitting-taken) ∙ counts-taken)
@@ -92,10 +91,10 @@ module _ (g : Given) (d : List ℕ) where
         let r = room-taken in
         record { room = omega arith; points-in = omega arith; links-in = omega arith }
 
-    module _ (d' : List ℕ) (size : ℕ) (i : d' ≡ sets d 0 (fileOf (sketchGiven g))) (l : size ≡ sizeIn g) where
+    module _ (d' : List ℕ) (size : ℕ) (i : d' ≡ sets d 0 (savedFile (sketchGiven g))) (l : size ≡ sizeIn g) where
       pub saved-written : _≡_ {A = Saved} (record { answer = written size; destination = d' }) (saveGiven g d)
       saved-written =
-          let bs = fileOf (sketchGiven g) in
+          let bs = savedFile (sketchGiven g) in
           let r = room-taken in
           let is : d' ≡ inFront bs d = i ∙ sets-eq bs d 0 (omega arith) ∙ ap (λ (k : ℕ). bs ++ drop k d) (zero-add (length bs)) in
           (λ v. record { answer = written ((l ∙ sym (size-is g fitting-taken)) v); destination = is v }) ∙ sym (saved-by ∙ ap (answered (sketchGiven g) d) taken ∙ answered-accepted (sketchGiven g) d)

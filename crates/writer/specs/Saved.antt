@@ -13,7 +13,7 @@ abbrev pub savedFrom : Answer → List ℕ → write.Saved
 savedFrom (Refused n) d = record { answer = write.refusal n; destination = d }
 savedFrom (Written n) d = record { answer = write.written n; destination = d }
 
--- What is written, at the front of the destination, is the one file that reads back as the sketch; of a refusal nothing is said.
+-- What is written, at the front of the destination, is the one file without minus zero that reads back as the sketch; of a refusal nothing is said.
 abbrev pub WritesOne : Answer → Sketch → List ℕ → Type 0
 WritesOne (Refused n) s d = Unit
 WritesOne (Written n) s d = OneFile s (take n d)

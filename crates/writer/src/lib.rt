@@ -1,6 +1,6 @@
 // The writer of drawing files: for every drawing that is handed to it the number of the first condition that holds, or the one file
-// that reads back as it. The checks are in `file_checks` and `writer_checks`, the records in `writer_records`; this crate has the
-// checks in their order and what the writer answers.
+// without minus zero that reads back as it. The checks are in `file_checks` and `writer_checks`, the records in `writer_records`;
+// this crate has the checks in their order and what the writer answers.
 ghost use mathlib.Core.Path.{_≡_};
 ghost use mathlib.Core.Bool.{_&&_};
 ghost use Prim.Native.Nat.{_≤_};
@@ -112,7 +112,7 @@ pub enum Answer {
 
 // Saves a drawing, whatever it holds: of each line how many points it has; x and y of each point, by their bits; of each end of each link the
 // line and the segment that it names; and x and y of that end. Slices of any lengths may be given. Refused, the destination keeps its
-// bytes; otherwise those past the file do, and what stands before them is the one file that reads back as the drawing.
+// bytes; otherwise those past the file do, and what stands before them is the one file without minus zero that reads back as the drawing.
 pub fn save(
     destination: &mut [u8],
     s: Settings,

@@ -1,13 +1,15 @@
 -- The whole answer: what is saved from the arrays of a file that the reader takes is what `saveAgain` says of the file.
-use mathlib.Core.Path.{_≡_, refl, sym, ap, subst, _∙_}
+use mathlib.Core.Path.{_≡_, sym, ap, subst, _∙_}
 use mathlib.Core.List.{List}
 use Prim.Native.Nat.{ℕ}
 use native.Mathlib.Omega.{arith}
 use Rattle.lists.specs.Members.{All}
-use Rattle.drawing_spec.specs.Drawing.{Sketch, over}
+use Rattle.drawing_spec.specs.Bytes.{inFront}
+use Rattle.drawing_spec.specs.Drawing.{Sketch}
+use Rattle.drawing_spec.specs.Cleaned.{cleaned}
 use Rattle.drawing_spec.specs.Refusal as refusal
 use Rattle.drawing_spec.specs.Refusal.{refused, accepted, verdict}
-use Rattle.drawing_spec.specs.Read.{placed, recordsOf, sketchOf, drawingOf, readConditions}
+use Rattle.drawing_spec.specs.Read.{recordsOf, sketchOf, drawingOf, readConditions}
 use Rattle.drawing_spec.proofs.Accepted.{in-limits}
 use Rattle.file.specs.declared.Verdict.{Verdict}
 use Rattle.file.specs.declared.Verdict.the-variants.{Refused, Accepted}
@@ -20,16 +22,14 @@ use Rattle.writer_spec.specs.Save.{Saved, refusal, save, saveAgain}
 use Rattle.writer_spec.specs.Given.{sketchGiven, saveGiven}
 use Rattle.writer_spec.specs.OneFile.{Byte}
 use Rattle.writer_spec.proofs.Given.{Fitting, fitting-true}
-use Rattle.writer_spec.proofs.Again.{records-again}
-use Rattle.writer_spec.proofs.Saved.{given-saved, again-refused, again-saved, again-only}
+use Rattle.writer_spec.proofs.Cleaned.{drawing-bits}
+use Rattle.writer_spec.proofs.Saved.{given-saved, save-cleaned, again-refused, again-saved, again-only}
 use Rattle.writer.specs.Saved.{savedFrom}
 use Rattle.writer.specs.declared.Answer as code
 use Rattle.writer.specs.declared.Answer.the-variants as variants
-use Rattle.writer_again.specs.Again.{WritesItself}
+use Rattle.writer_again.specs.Again.{WritesCleaned}
 use Rattle.writer_again.specs.Filled.{givenIn, Savable}
-use Rattle.writer_again.proofs.Sketch.{bitsAt, held-fitting, held-given}
-use Rattle.writer_again.proofs.Words.{file-patterned}
-use Rattle.writer_again.proofs.SameBits.{same-bits}
+use Rattle.writer_again.proofs.Sketch.{held-fitting, held-given}
 use Rattle.writer_again.proofs.Held.{held-savable}
 
 -- ---- what the reader's verdict says of the definitions'
@@ -56,23 +56,18 @@ module _ (file : List ℕ) (a : readingOf file .verdict ≡ Accepted) where
   read-savable : Savable (readingOf file .drawing)
   read-savable = subst Savable (sym held) (held-savable (drawingOf (recordsOf file)) (in-limits file (taken file a .passes)))
 
-  drawn-by : drawingOf (recordsOf file) ≡ over placed (sketchOf (recordsOf file))
-  unfolding drawingOf
-  drawn-by = refl
-
-  -- the sketch of what is saved is the file's
-  read-sketch : All Byte file → sketchGiven (givenIn (readingOf file .drawing)) ≡ sketchOf (recordsOf file)
+  -- the sketch of what is saved is the file's, cleaned
+  read-sketch : All Byte file → sketchGiven (givenIn (readingOf file .drawing)) ≡ cleaned (sketchOf (recordsOf file))
   read-sketch b =
-      let p = taken file a .passes in
       ap (λ (r : Drawing). sketchGiven (givenIn r)) held
       ∙ held-given (drawingOf (recordsOf file))
-      ∙ ap (over bitsAt) drawn-by
-      ∙ same-bits (sketchOf (recordsOf file)) (file-patterned (recordsOf file) (records-again file (p .is-whole) b .bodies-are)) (p .on-grid)
+      ∙ drawing-bits file b (verdict-accepted file a)
 
   read-saved : All Byte file → (d : List ℕ) → saveGiven (givenIn (readingOf file .drawing)) d ≡ saveAgain file d
   read-saved b d =
       given-saved (givenIn (readingOf file .drawing)) d (fitting-true (givenIn (readingOf file .drawing)) (subst (λ (r : Drawing). Fitting (givenIn r)) (sym held) (held-fitting (drawingOf (recordsOf file)))))
       ∙ ap (λ (s : Sketch). save s d) (read-sketch b)
+      ∙ save-cleaned (sketchOf (recordsOf file)) d
       ∙ sym (again-saved file d (verdict-accepted file a))
 
 -- ---- the code's answer, from what was read
@@ -91,8 +86,9 @@ module _ (file : List ℕ) (r : Reading) (is : r ≡ readingOf file) where
     pub accepted-again : All Byte file → (d : List ℕ) → saveGiven (givenIn (r .drawing)) d ≡ saveAgain file d
     accepted-again b d = ap (λ (r : Reading). saveGiven (givenIn (r .drawing)) d) is ∙ read-saved file taken-again b d
 
-pub writes-itself : (file d : List ℕ) → All Byte file → (r : code.Answer) (after : List ℕ) → savedFrom r after ≡ saveAgain file d → WritesItself r file d after
-writes-itself file d b (variants.Refused k) after s = tt
-writes-itself file d b (variants.Written n) after s =
+pub writes-cleaned : (file d : List ℕ) → All Byte file → (r : code.Answer) (after : List ℕ) → savedFrom r after ≡ saveAgain file d → WritesCleaned r file d after
+writes-cleaned file d b (variants.Refused k) after s = tt
+writes-cleaned file d b (variants.Written n) after s =
     let o = again-only file d b n (sym (ap (λ (t : Saved). t .answer) s)) in
-    (o .0, ap (λ (t : Saved). t .destination) s ∙ o .1)
+    let is = ap (λ (t : Saved). t .destination) s ∙ o .1 in
+    (o .0, is, λ p. is ∙ ap (λ (l : List ℕ). inFront l d) (o .2 p))

@@ -1,4 +1,4 @@
--- The sketch of the lists that a drawing in flat arrays is saved from. Whatever the drawing is, they say it with the bits that `writePlace` gives for each place; that a file has these bits is in SameBits.
+-- The sketch of the lists that a drawing in flat arrays is saved from. Whatever the drawing is, they say it with the bits that `writePlace` gives for each place; that a file has these bits, minus zero aside, is in `writer_spec/proofs/SameBits`.
 use mathlib.Core.Path.{_≡_, refl, sym, ap, _∙_}
 use mathlib.Core.List.{List, [], _∷_, _++_, map}
 use Prim.Native.Nat.{ℕ, suc, _+_, _-_, _*_, _/_}
@@ -19,13 +19,10 @@ use Rattle.file_drawing.specs.Held.{noLink, pastEnd, drawingHeld}
 use Rattle.file_drawing.specs.Stores.{padded, xsOf, ysOf, endsFrom}
 use Rattle.writer_spec.specs.Given.{pointsGiven, linesGiven, linksGiven, sketchGiven}
 use Rattle.writer_spec.proofs.Given.{Fitting}
+use Rattle.writer_spec.proofs.SameBits.{bitsAt}
 use Rattle.writer_again.specs.Filled.{appended, sizeAt, bitsOf, segmentsOf, endsOf, givenIn}
 
 -- ---- the lists, from the drawing's own
-
--- the bits at a place
-abbrev pub bitsAt : ℕ → Pattern
-bitsAt p = record { bits = writePlace p }
 
 pointBits : List drawn.Point → List ℕ
 pointBits [] = []

@@ -11,7 +11,7 @@ ghost use Rattle.limits.specs.Limits.{mostLines, mostPoints, mostLinks};
 ghost use Rattle.writer_spec.specs.Save.{saveAgain};
 ghost use Rattle.writer_spec.specs.Given.{saveGiven};
 ghost use Rattle.writer.specs.Saved.{savedFrom};
-ghost use Rattle.writer_again.specs.Again.{WritesItself};
+ghost use Rattle.writer_again.specs.Again.{WritesCleaned};
 ghost use Rattle.writer_again.specs.Filled.{sizeAt, sizesIn, bitsOf, coordinatesIn, segmentsOf, segmentsIn, endsOf, endsIn, givenIn, Rising, Numbers, AreNumbers, Savable};
 use file::Verdict;
 use file_drawing::Drawing;
@@ -166,10 +166,11 @@ fn save_arrays(drawing: Drawing, destination: &mut [u8]) -> Answer
 }
 
 // Reads a drawing file, whatever its bytes are, and saves what was read. Refused as the reader would refuse it, or because the destination
-// is too short, the destination keeps its bytes; otherwise those past the file do, and what stands before them is the file itself.
+// is too short, the destination keeps its bytes; otherwise those past the file do, and what stands before them is the cleaned file: the one
+// that was read, with a plain zero for each minus zero.
 pub fn save_again(file: &[u8], destination: &mut [u8]) -> Answer
     ensures saved { λ r. ⌜ savedFrom r (now (destination .exit)) ≡ saveAgain (now (file .entry)) (now (destination .entry)) ⌝ }
-    ensures itself { λ r. ⌜ WritesItself r (now (file .entry)) (now (destination .entry)) (now (destination .exit)) ⌝ }
+    ensures cleaned { λ r. ⌜ WritesCleaned r (now (file .entry)) (now (destination .entry)) (now (destination .exit)) ⌝ }
 {
     let reading = file::read(file);
     let verdict = reading.verdict;

@@ -16,9 +16,9 @@ use Rattle.drawing_spec.proofs.Same.{both}
 use Rattle.drawing_spec.specs.Drawing.{PointOf, EndOf, LinkOf, Pattern, linking}
 use Rattle.drawing_spec.specs.Read.{every, total, countsFit, ownLinksFit, coordinatesFit, pointFits, endFits, linksFit}
 use Rattle.file_checks.proofs.TallyLaws.{and-assoc}
-use Rattle.writer_spec.specs.File.{fileOf}
+use Rattle.writer_spec.specs.Save.{savedFile}
 use Rattle.writer_spec.specs.Given.{Given, pointsGiven, linesGiven, linkGiven, linksGiven, sketchGiven}
-use Rattle.writer_spec.proofs.Lengths.{file-length}
+use Rattle.writer_spec.proofs.Lengths.{file-length, saved-length}
 use Rattle.writer_spec.proofs.Given.{Fitting, total-cons, total-nil, lines-long, sizes-are, line-long, links-long}
 use Rattle.writer_checks.specs.Checked.{allOn, endIn, linkIn, linksIn}
 
@@ -145,8 +145,8 @@ module _ (g : Given) where
         let n = half in
         omega arith
 
-    pub size-is : length (fileOf (sketchGiven g)) ≡ sizeIn g
-    size-is = file-length (sketchGiven g) ∙ parts
+    pub size-is : length (savedFile (sketchGiven g)) ≡ sizeIn g
+    size-is = saved-length (sketchGiven g) ∙ file-length (sketchGiven g) ∙ parts
 
 -- ---- the loop over coordinates
 

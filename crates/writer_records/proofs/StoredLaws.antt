@@ -1,19 +1,20 @@
 -- Laws of specs/Stored: numbers stored one behind the other, and records.
 use mathlib.Core.Path.{_≡_, refl, sym, ap, _∙_}
-use mathlib.Core.List.{List, [], _∷_, _++_}
+use mathlib.Core.List.{List, [], _∷_, _++_, map}
 use Prim.Native.Nat.{ℕ, zero, suc, _+_, _-_, _*_, _/_, _≤_, _<_}
 use native.Mathlib.Nat.{mul-zero, mul-suc, add-comm}
 use native.Mathlib.Numerals.{add-one}
 use native.Mathlib.Omega.{arith}
-use lib.ListN.{length, getD, take, drop, length-append, length-drop, drop-of-length-le}
+use lib.ListN.{length, getD, take, drop, length-append, length-drop, length-map, drop-of-length-le, List·getD-map}
 use lib.Seq.{sets, length-sets, drop-cons, length-take-le}
 use Rattle.lists.proofs.Parts.{sets-append}
 use Rattle.limits.specs.Limits.{kindLine, kindLink}
+use Rattle.grid.specs.Grid.{clean}
 use Rattle.drawing_spec.specs.Bytes.{bytes}
 use Rattle.drawing_spec.proofs.Back.{bytes-length}
 use Rattle.drawing_spec.specs.Read.{total}
 use Rattle.writer_spec.proofs.Given.{total-cons}
-use Rattle.writer_records.specs.Stored.{numbersBytes, part, headBytes, lineStored, linkStored, linesStored, linesSize, LinesRoom, LinesPut, LinksRoom, linksStored}
+use Rattle.writer_records.specs.Stored.{numbersBytes, part, coordinatesStored, headBytes, lineStored, linkStored, linesStored, linesSize, LinesRoom, LinesPut, LinksRoom, linksStored}
 
 -- ---- numbers of w bytes
 
@@ -72,6 +73,14 @@ module _ (w : ℕ) (d₀ : List ℕ) (at : ℕ) (vs : List ℕ) (from count : �
       let z : left ≡ 0 = omega arith in
       sym (ap (λ (k : ℕ). sets d place (numbersBytes w (part vs next k))) z ∙ ap (sets d place) (numbers-nil w)) ∙ p .is
 
+pub put-none-clean : (d₀ : List ℕ) (at : ℕ) (ws : List ℕ) (from count : ℕ) → from + count ≤ length ws → Putting 8 d₀ at (map clean ws) from count d₀ at from count
+put-none-clean d₀ at ws from count h = let same = length-map ws clean in put-none 8 d₀ at (map clean ws) from count (omega arith)
+
+-- a coordinate that is stored is the cleaned one; past the end 0 is clean
+pub clean-at : (ws : List ℕ) (i v : ℕ) → v ≡ clean (getD ws i 0) → v ≡ getD (map clean ws) i 0
+unfolding clean
+clean-at ws i v e = e ∙ sym (List·getD-map clean ws i 0)
+
 -- ---- one part behind another
 
 pub both-stored : (d d' d'' : List ℕ) (at n k : ℕ) (a b : List ℕ) → length a ≡ n → k ≡ at + n → d' ≡ sets d at a → d'' ≡ sets d' k b → d'' ≡ sets d at (a ++ b)
@@ -84,17 +93,17 @@ head-stored d d' d'' at size kind e f = both-stored d d' d'' at 4 (at + 4) (byte
 pub head-length : (size kind : ℕ) → length (headBytes size kind) ≡ 6
 head-length size kind = omega (arith, length-append (bytes 4 size) (bytes 2 kind), bytes-length 4 size, bytes-length 2 kind)
 
-pub line-stored : (d d' d'' words : List ℕ) (at from points : ℕ) → d' ≡ sets d at (headBytes (16 * points) kindLine) → d'' ≡ sets d' (at + 6) (numbersBytes 8 (part words from (2 * points))) → d'' ≡ sets d at (lineStored words from points)
+pub line-stored : (d d' d'' words : List ℕ) (at from points : ℕ) → d' ≡ sets d at (headBytes (16 * points) kindLine) → d'' ≡ sets d' (at + 6) (coordinatesStored words from (2 * points)) → d'' ≡ sets d at (lineStored words from points)
 unfolding lineStored
-line-stored d d' d'' words at from points e f = both-stored d d' d'' at 6 (at + 6) (headBytes (16 * points) kindLine) (numbersBytes 8 (part words from (2 * points))) (head-length (16 * points) kindLine) refl e f
+line-stored d d' d'' words at from points e f = both-stored d d' d'' at 6 (at + 6) (headBytes (16 * points) kindLine) (coordinatesStored words from (2 * points)) (head-length (16 * points) kindLine) refl e f
 
-pub link-stored : (d headed ended d' segments words : List ℕ) (at from : ℕ) → from + 4 ≤ length segments → headed ≡ sets d at (headBytes 40 kindLink) → ended ≡ sets headed (at + 6) (numbersBytes 2 (part segments from 4)) → d' ≡ sets ended (at + 14) (numbersBytes 8 (part words from 4))
+pub link-stored : (d headed ended d' segments words : List ℕ) (at from : ℕ) → from + 4 ≤ length segments → headed ≡ sets d at (headBytes 40 kindLink) → ended ≡ sets headed (at + 6) (numbersBytes 2 (part segments from 4)) → d' ≡ sets ended (at + 14) (coordinatesStored words from 4)
     → d' ≡ sets d at (linkStored segments words from)
 unfolding linkStored
 link-stored d headed ended d' segments words at from h e f g =
     let a = headBytes 40 kindLink in
     let b = numbersBytes 2 (part segments from 4) in
-    let c = numbersBytes 8 (part words from 4) in
+    let c = coordinatesStored words from 4 in
     let four : length (part segments from 4) ≡ 4 = length-take-le 4 (drop from segments) (rw length-drop (omega arith)) in
     let lb : length b ≡ 8 = let n = numbers-length 2 (part segments from 4) in omega arith in
     let la = head-length 40 kindLink in
@@ -106,8 +115,9 @@ link-stored d headed ended d' segments words at from h e f g =
 pub line-stored-length : (words : List ℕ) (from n : ℕ) → from + 2 * n ≤ length words → length (lineStored words from n) ≡ 6 + 16 * n
 unfolding lineStored
 line-stored-length words from n h =
-    let p : length (part words from (2 * n)) ≡ 2 * n = length-take-le (2 * n) (drop from words) (rw length-drop (omega arith)) in
-    omega (arith, head-length (16 * n) kindLine, length-append (headBytes (16 * n) kindLine) (numbersBytes 8 (part words from (2 * n))), numbers-length 8 (part words from (2 * n)))
+    let same = length-map words clean in
+    let p : length (part (map clean words) from (2 * n)) ≡ 2 * n = length-take-le (2 * n) (drop from (map clean words)) (rw length-drop (omega arith)) in
+    omega (arith, head-length (16 * n) kindLine, length-append (headBytes (16 * n) kindLine) (coordinatesStored words from (2 * n)), numbers-length 8 (part (map clean words) from (2 * n)))
 
 pub lines-cons : (n : ℕ) (ns words : List ℕ) (from : ℕ) → linesStored (n ∷ ns) words from ≡ lineStored words from n ++ linesStored ns words (from + 2 * n)
 unfolding linesStored
@@ -182,10 +192,11 @@ unfolding linkStored
 link-stored-length segments words from h k =
     let a = headBytes 40 kindLink in
     let b = numbersBytes 2 (part segments from 4) in
-    let c = numbersBytes 8 (part words from 4) in
+    let c = coordinatesStored words from 4 in
     let p : length (part segments from 4) ≡ 4 = length-take-le 4 (drop from segments) (rw length-drop (omega arith)) in
-    let q : length (part words from 4) ≡ 4 = length-take-le 4 (drop from words) (rw length-drop (omega arith)) in
-    omega (arith, head-length 40 kindLink, length-append (a ++ b) c, length-append a b, numbers-length 2 (part segments from 4), numbers-length 8 (part words from 4))
+    let same = length-map words clean in
+    let q : length (part (map clean words) from 4) ≡ 4 = length-take-le 4 (drop from (map clean words)) (rw length-drop (omega arith)) in
+    omega (arith, head-length 40 kindLink, length-append (a ++ b) c, length-append a b, numbers-length 2 (part segments from 4), numbers-length 8 (part (map clean words) from 4))
 
 pub links-cons : (k : ℕ) (segments words : List ℕ) (from : ℕ) → linksStored (suc k) segments words from ≡ linkStored segments words from ++ linksStored k segments words (from + 4)
 unfolding linksStored

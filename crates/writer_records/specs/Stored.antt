@@ -1,9 +1,10 @@
 -- What is stored, by the lists that are handed in: numbers of one width, one behind the other, and records made of them. That it is the file is in proofs/FileLaws.
 use Prim.Native.Nat.{ℕ, zero, suc, _+_, _*_, _/_, _≤_}
-use mathlib.Core.List.{List, [], _∷_, _++_}
+use mathlib.Core.List.{List, [], _∷_, _++_, map}
 use mathlib.Core.Path.{_≡_}
 use lib.ListN.{length, take, drop}
 use lib.Seq.{sets}
+use Rattle.grid.specs.Grid.{clean}
 use Rattle.drawing_spec.specs.Read.{total}
 use Rattle.writer_spec.specs.Given.{Given}
 use Rattle.limits.specs.Limits.{kindLine, kindLink, headSize, settingsSize, pointSize, linkSize}
@@ -17,15 +18,19 @@ numbersBytes n (v ∷ vs) = bytes n v ++ numbersBytes n vs
 abbrev pub part : List ℕ → ℕ → ℕ → List ℕ
 part vs from count = take count (drop from vs)
 
+-- coordinates, with plain zero for minus zero
+abbrev pub coordinatesStored : List ℕ → ℕ → ℕ → List ℕ
+coordinatesStored words from count = numbersBytes 8 (part (map clean words) from count)
+
 -- a record's head, a line's record and a link's, by the numbers from a place on
 abbrev pub headBytes : ℕ → ℕ → List ℕ
 headBytes size kind = bytes 4 size ++ bytes 2 kind
 
 unfoldable pub lineStored : List ℕ → ℕ → ℕ → List ℕ
-lineStored words from points = headBytes (pointSize * points) kindLine ++ numbersBytes 8 (part words from (2 * points))
+lineStored words from points = headBytes (pointSize * points) kindLine ++ coordinatesStored words from (2 * points)
 
 unfoldable pub linkStored : List ℕ → List ℕ → ℕ → List ℕ
-linkStored segments words from = headBytes linkSize kindLink ++ numbersBytes 2 (part segments from 4) ++ numbersBytes 8 (part words from 4)
+linkStored segments words from = headBytes linkSize kindLink ++ numbersBytes 2 (part segments from 4) ++ coordinatesStored words from 4
 
 -- ---- all lines, from a place among the coordinates on
 

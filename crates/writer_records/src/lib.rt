@@ -5,9 +5,10 @@ ghost use lib.ListN.{length};
 ghost use lib.Seq.{sets};
 ghost use Rattle.limits.specs.Limits.{headSize, settingsSize, pointSize, linkSize};
 ghost use Rattle.file_records.specs.Meaning.{settingsOf};
-ghost use Rattle.writer_spec.specs.File.{recordBytes, settingsAsRecord, fileOf};
+ghost use Rattle.writer_spec.specs.File.{recordBytes, settingsAsRecord};
+ghost use Rattle.writer_spec.specs.Save.{savedFile};
 ghost use Rattle.writer_spec.specs.Given.{given, sketchGiven};
-ghost use Rattle.writer_records.specs.Stored.{numbersBytes, part, headBytes, lineStored, linkStored, LinesRoom, LinesPut, LinksRoom, linksStored, FileRoom};
+ghost use Rattle.writer_records.specs.Stored.{numbersBytes, part, coordinatesStored, headBytes, lineStored, linkStored, LinesRoom, LinesPut, LinksRoom, linksStored, FileRoom};
 use file_records::Settings;
 use limits::HEAD_SIZE;
 use limits::KIND_LINE;
@@ -31,16 +32,17 @@ const LINK_RECORD: usize = HEAD_SIZE + LINK_SIZE;
 // Where the coordinates stand in a link's record: behind its head and four numbers of two bytes.
 const LINK_COORDINATES: usize = HEAD_SIZE + 8;
 
-// Puts `count` coordinates of a slice, from an index on, 8 bytes each.
+// Puts `count` coordinates of a slice, from an index on, 8 bytes each: plain zero for minus zero.
 fn write_coordinates(destination: &mut [u8], at: usize, words: &[u64], from: usize, count: usize)
     requires { ⌜ (at + 8 * count ≤ length (now destination)) × (from + count ≤ length (now words)) ⌝ }
-    ensures { λ _. ⌜ now (destination .exit) ≡ sets (now (destination .entry)) at (numbersBytes 8 (part (now (words .entry)) from count)) ⌝ }
+    ensures { λ _. ⌜ now (destination .exit) ≡ sets (now (destination .entry)) at (coordinatesStored (now (words .entry)) from count) ⌝ }
 {
     let mut place = at;
     let mut next = from;
     let mut left = count;
     while left > 0 {
-        number_bytes::write_number(destination, place, 8, words[next]);
+        let word = grid::clean(words[next]);
+        number_bytes::write_number(destination, place, 8, word);
         place += 8;
         next += 1;
         left -= 1;
@@ -147,7 +149,7 @@ pub fn write_file(
     ends: &[u64],
 )
     requires { ⌜ FileRoom (now destination) (given (settingsOf s) (now sizes) (now coordinates) (now segments) (now ends)) ⌝ }
-    ensures { λ _. ⌜ now (destination .exit) ≡ sets (now (destination .entry)) 0 (fileOf (sketchGiven (given (settingsOf s) (now (sizes .entry)) (now (coordinates .entry)) (now (segments .entry)) (now (ends .entry))))) ⌝ }
+    ensures { λ _. ⌜ now (destination .exit) ≡ sets (now (destination .entry)) 0 (savedFile (sketchGiven (given (settingsOf s) (now (sizes .entry)) (now (coordinates .entry)) (now (segments .entry)) (now (ends .entry))))) ⌝ }
 {
     write_settings(destination, s);
     let end = write_lines(destination, SETTINGS_RECORD, sizes, coordinates);

@@ -13,13 +13,16 @@ use Rattle.lists.specs.Members.{All}
 use Rattle.lists.proofs.Members.{all-take, all-drop}
 use Rattle.drawing_spec.specs.Bytes.{number, bytes}
 use Rattle.drawing_spec.specs.Drawing.{Sketch}
-use Rattle.drawing_spec.specs.Read.{Record, recordsOf, isCut, spot, spots, settingsOf, spotsOfLine, sketchedLink, bodies, sketchOf, every, allLinks, kindsFit, linesThenLinks, lengthsFit}
+use Rattle.drawing_spec.specs.Refusal.{accepted, verdict}
+use Rattle.drawing_spec.specs.Read.{Record, recordsOf, isCut, spot, spots, settingsOf, spotsOfLine, sketchedLink, bodies, sketchOf, every, allLinks, kindsFit, linesThenLinks, lengthsFit, readConditions}
 use Rattle.drawing_spec.proofs.Same.{both}
-use Rattle.drawing_spec.proofs.Records.{bodies-here, bodies-other, links-cons, links-no-lines, settings-next}
+use Rattle.drawing_spec.proofs.Accepted.{accepted-passes}
+use Rattle.drawing_spec.proofs.Placed.{spots-one, sketch-parts}
+use Rattle.drawing_spec.proofs.Records.{linesLong, linksLong, lengths-parts, bodies-here, bodies-other, links-cons, links-no-lines, settings-next}
 use Rattle.drawing_spec.proofs.Split.{front, isCut-cut, isCut-step, records-step}
 use Rattle.writer_spec.specs.File.{recordBytes, joined, settingsBytes, spotBytes, lineBytes, linkBytes, settingsAsRecord, lineAsRecord, linkAsRecord, recordsFor, fileOf}
 use Rattle.writer_spec.specs.OneFile.{Byte}
-use Rattle.writer_spec.proofs.Back.{record-parts, joined-cons, line-bytes, spots-one}
+use Rattle.writer_spec.proofs.Back.{record-parts, joined-cons, line-bytes}
 
 -- ---- numbers
 
@@ -164,12 +167,6 @@ link-again bs h a =
 same-record : (r s : Record) → r .kind ≡ s .kind → r .body ≡ s .body → r ≡ s
 same-record r s k b = λ i. record { kind = k i; body = b i }
 
-abbrev linesLong : List Record → Bool
-linesLong rs = every (λ (b : List ℕ). eqb (length b % pointSize) 0) (bodies kindLine rs)
-
-abbrev linksLong : List Record → Bool
-linksLong rs = every (λ (b : List ℕ). eqb (length b) linkSize) (bodies kindLink rs)
-
 abbrev inBytes : Record → Type 0
 inBytes r = All Byte (r .body)
 
@@ -222,21 +219,9 @@ behind-again (r ∷ rs) h l k a = go (behind-again rs) (eqb (r .kind) kindLine) 
 
 -- ---- the whole file
 
-lengths-parts : (rs : List Record) → lengthsFit rs ≡ true → (every (λ (b : List ℕ). eqb (length b) settingsSize) (bodies kindSettings rs) ≡ true) × (linesLong rs ≡ true) × (linksLong rs ≡ true)
-unfolding lengthsFit
-lengths-parts rs h =
-    let a = every (λ (b : List ℕ). eqb (length b) settingsSize) (bodies kindSettings rs) in
-    let t = both (a && linesLong rs) (linksLong rs) h in
-    let u = both a (linesLong rs) (t .0) in
-    (u .0, u .1, t .1)
-
 records-parts : (s : Sketch) → recordsFor s ≡ settingsAsRecord (s .settings) ∷ (map lineAsRecord (s .lines) ++ map linkAsRecord (s .links))
 unfolding recordsFor
 records-parts s = refl
-
-sketch-parts : (rs : List Record) → sketchOf rs ≡ record { settings = settingsOf (getD (bodies kindSettings rs) 0 []); lines = map spotsOfLine (bodies kindLine rs); links = map sketchedLink (bodies kindLink rs) }
-unfolding sketchOf
-sketch-parts rs = refl
 
 sketch-again : (rs : List Record) → kindsFit rs ≡ true → lengthsFit rs ≡ true → All (λ (r : Record). inBytes r) rs → recordsFor (sketchOf rs) ≡ rs
 unfolding kindsFit
@@ -263,3 +248,7 @@ unfolding fileOf
 file-again file a w k l =
     let r = records-again file w a in
     ap joined (sketch-again (recordsOf file) k l (r .bodies-are)) ∙ r .is
+
+-- And so of every file that the reader takes.
+pub read-written : (file : List ℕ) → All Byte file → verdict (readConditions file) ≡ accepted → fileOf (sketchOf (recordsOf file)) ≡ file
+read-written file b e = let p = accepted-passes file e in file-again file b (p .is-whole) (p .in-order) (p .long)

@@ -13,6 +13,7 @@ use Rattle.drawing_spec.specs.Bytes.{number, bytes}
 use Rattle.drawing_spec.proofs.Back.{bytes-length}
 use Rattle.drawing_spec.specs.Drawing.{PointOf, Settings, LinkOf, Pattern, Sketch}
 use Rattle.drawing_spec.specs.Read.{Record, whole, before, split, recordsOf, isCut, spot, spots, settingsOf, spotsOfLine, sketchedLink, bodies, sketchOf}
+use Rattle.drawing_spec.proofs.Placed.{spot-parts, spots-one, link-parts}
 use Rattle.drawing_spec.proofs.Split.{front, split-nil, split-fits}
 use Rattle.writer_spec.specs.File.{recordBytes, joined, settingsBytes, spotBytes, lineBytes, linkBytes, lineAsRecord, linkAsRecord, recordsFor}
 use Rattle.writer_spec.specs.OneFile.{SettingsHeld, PointHeld, LinkHeld, Held}
@@ -119,10 +120,6 @@ settings-back s h =
     settings-parts bs ∙ λ i. record { width = a .is i; height = b .is i; pairing = c .is i; flags = d .is i }
 
 -- a point at a place
-spot-parts : (bs : List ℕ) → spot bs ≡ record { x = record { bits = number 8 bs }; y = record { bits = number 8 (drop 8 bs) } }
-unfolding spot
-spot-parts bs = refl
-
 spot-bytes : (p : PointOf Pattern) (rest : List ℕ) → spotBytes p ++ rest ≡ bytes 8 (p .x .bits) ++ (bytes 8 (p .y .bits) ++ rest)
 unfolding spotBytes
 spot-bytes p rest = simp append-assoc
@@ -160,10 +157,6 @@ pub line-bytes : (p : PointOf Pattern) (l : List (PointOf Pattern)) → lineByte
 unfolding lineBytes
 line-bytes p l = refl
 
-pub spots-one : (n : ℕ) (bs : List ℕ) → spots (suc n) bs ≡ spot bs ∷ spots n (drop 16 bs)
-unfolding spots
-spots-one n bs = refl
-
 spots-back : (l : List (PointOf Pattern)) → All PointHeld l → spots (length l) (lineBytes l) ≡ l
 unfolding spots
 spots-back [] h = refl
@@ -177,15 +170,6 @@ line-back l h =
     let n = line-length l in
     let e : length (lineBytes l) / 16 ≡ length l = omega arith in
     ap (λ (k : ℕ). spots k (lineBytes l)) e ∙ spots-back l h
-
-link-parts : (bs : List ℕ)
-    → sketchedLink bs
-    ≡ record {
-      first = record { line = number 2 bs; segment = number 2 (drop 2 bs); point = spot (drop 8 bs) };
-      second = record { line = number 2 (drop 4 bs); segment = number 2 (drop 6 bs); point = spot (drop 24 bs) };
-    }
-unfolding sketchedLink
-link-parts bs = refl
 
 pub link-bytes : (l : LinkOf Pattern)
     → linkBytes l ≡ bytes 2 (l .first .line) ++ (bytes 2 (l .first .segment) ++ (bytes 2 (l .second .line) ++ (bytes 2 (l .second .segment) ++ (spotBytes (l .first .point) ++ spotBytes (l .second .point)))))

@@ -2,7 +2,8 @@
 use Prim.Native.Nat.{ℕ}
 use mathlib.Core.Path.{_≡_, refl}
 use mathlib.Core.List.{List, [], _∷_, _++_, map}
-use lib.ListN.{replicate}
+use lib.ListN.{take, drop, replicate}
+use Rattle.grid.specs.Grid.{minusZero}
 use Rattle.drawing_spec.specs.Drawing.{Settings, Sketch}
 use Rattle.drawing_spec.specs.Refusal.{numberOf}
 use Rattle.writer_spec.specs.File.{fileOf}
@@ -40,12 +41,17 @@ given-in-order : (g : Given) (room : ℕ) → map numberOf (givenConditions g ro
 unfolding givenConditions
 given-in-order g room = refl
 
--- ---- a destination of 56 sevens: room to spare; a coordinate too few; minus zero
+-- ---- a destination of 56 sevens: room to spare; a coordinate too few; half a step
 
-answers : map (λ (g : Given). saveGiven g (replicate 56 7)) (segment corners ∷ segment (0 ∷ 0 ∷ 0 ∷ []) ∷ segment (0 ∷ 0 ∷ 0 ∷ 0x8000000000000000 ∷ []) ∷ [])
+answers : map (λ (g : Given). saveGiven g (replicate 56 7)) (segment corners ∷ segment (0 ∷ 0 ∷ 0 ∷ []) ∷ segment (0 ∷ 0 ∷ 0 ∷ 0x3F40000000000000 ∷ []) ∷ [])
     ≡ record { answer = written 54; destination = inBytes ++ (7 ∷ 7 ∷ []) } ∷ record { answer = refusal 4; destination = replicate 56 7 } ∷ record { answer = refusal 7; destination = replicate 56 7 } ∷ []
 unfolding saveGiven
 answers = refl
+
+-- (-0,0) (3,4): the same file as for (0,0) (3,4)
+minus-zero-handed : saveGiven (segment (minusZero ∷ 0 ∷ 0x4008000000000000 ∷ 0x4010000000000000 ∷ [])) (replicate 56 7) ≡ record { answer = written 54; destination = inBytes ++ (7 ∷ 7 ∷ []) }
+unfolding saveGiven
+minus-zero-handed = refl
 
 -- just enough, and a byte too few
 rooms : map (λ (n : ℕ). saveGiven (segment corners) (replicate n 7)) (54 ∷ 53 ∷ []) ≡ record { answer = written 54; destination = inBytes } ∷ record { answer = refusal 16; destination = replicate 53 7 } ∷ []
@@ -84,6 +90,12 @@ two-faults : map answerOf (linkedDot 12 (0 ∷ 0 ∷ 1 ∷ 0 ∷ []) ∷ linkedD
 unfolding saveGiven
 two-faults = refl
 
+-- the link's ends at (-0,-0) and (3,4): saved as at (0,0) and (3,4)
+link-minus-zero : saveGiven (given (flagged 0) (1 ∷ 1 ∷ []) corners (0 ∷ 0 ∷ 1 ∷ 0 ∷ []) (minusZero ∷ minusZero ∷ 0x4008000000000000 ∷ 0x4010000000000000 ∷ [])) (replicate 106 7)
+    ≡ record { answer = written 106; destination = dotsIn ++ linkIn }
+unfolding saveGiven
+link-minus-zero = refl
+
 -- ---- lists that do not fit one another: a coordinate of an end too few, half a link, and a point more than there are coordinates
 
 unfitted : map answerOf (given (flagged 0) (1 ∷ 1 ∷ []) corners (0 ∷ 0 ∷ 1 ∷ 0 ∷ []) (0 ∷ 0 ∷ 0 ∷ []) ∷ given (flagged 0) (1 ∷ 1 ∷ []) corners (0 ∷ 0 ∷ []) (0 ∷ 0 ∷ []) ∷ given (flagged 12) (2 ∷ 1 ∷ []) corners [] [] ∷ []) ≡ refusal 4 ∷ refusal 4 ∷ refusal 4 ∷ []
@@ -95,3 +107,8 @@ unfitted = refl
 again : map (λ (file : List ℕ). saveAgain file (replicate 56 7)) (inBytes ∷ (inBytes ++ (0 ∷ [])) ∷ []) ≡ record { answer = written 54; destination = inBytes ++ (7 ∷ 7 ∷ []) } ∷ record { answer = refusal 2; destination = replicate 56 7 } ∷ []
 unfolding saveAgain
 again = refl
+
+-- with a minus zero: the cleaned file
+again-minus-zero : saveAgain (take 29 inBytes ++ (128 ∷ drop 30 inBytes)) (replicate 54 7) ≡ record { answer = written 54; destination = inBytes }
+unfolding saveAgain
+again-minus-zero = refl

@@ -1,17 +1,20 @@
 -- How long a record is, and a file.
-use mathlib.Core.Path.{_≡_, refl, ap}
+use mathlib.Core.Path.{_≡_, refl, sym, ap, _∙_}
 use mathlib.Core.List.{List, [], _∷_, _++_, map}
 use mathlib.Core.Bool.{true}
 use Prim.Native.Nat.{ℕ, _+_, _*_, _≤_}
 use native.Mathlib.Omega.{arith}
-use lib.ListN.{length, length-append}
+use lib.ListN.{length, length-append, length-map}
 use Rattle.limits.specs.Limits.{settingsSize, pointSize, linkSize, fileSize, mostFile, mostBytes}
 use Rattle.drawing_spec.specs.Bytes.{bytes}
 use Rattle.drawing_spec.proofs.Back.{bytes-length}
 use Rattle.drawing_spec.proofs.Accepted.{counts-fit}
-use Rattle.drawing_spec.specs.Drawing.{PointOf, Settings, LinkOf, Pattern, Sketch}
+use Rattle.drawing_spec.proofs.Placed.{lengths-over}
+use Rattle.drawing_spec.specs.Drawing.{PointOf, Settings, LinkOf, Pattern, Sketch, overPoint, overLink, over}
+use Rattle.drawing_spec.specs.Cleaned.{cleanPattern, cleaned}
 use Rattle.drawing_spec.specs.Read.{total, countsFit}
 use Rattle.writer_spec.specs.File.{joined, settingsBytes, spotBytes, linkBytes, settingsAsRecord, lineAsRecord, linkAsRecord, fileOf}
+use Rattle.writer_spec.specs.Save.{savedFile}
 use Rattle.writer_spec.proofs.Back.{joined-length, line-length, link-bytes}
 
 pub settings-length : (s : Settings) → length (settingsBytes s) ≡ settingsSize
@@ -95,6 +98,17 @@ file-short s e =
     let c = n .links in
     let l = file-length s in
     omega arith
+
+-- What is saved is as long.
+pub saved-length : (s : Sketch) → length (savedFile s) ≡ length (fileOf s)
+unfolding savedFile cleaned over
+saved-length s =
+    file-length (cleaned s)
+    ∙ (λ i. fileSize (length-map (s .lines) (map (overPoint cleanPattern)) i) (total (lengths-over cleanPattern (s .lines) i)) (length-map (s .links) (overLink cleanPattern) i))
+    ∙ sym (file-length s)
+
+pub saved-short : (s : Sketch) → countsFit s ≡ true → length (savedFile s) ≤ mostFile
+saved-short s e = let l = saved-length s in let f = file-short s e in omega arith
 
 pub below-check-1 : mostFile ≤ mostBytes
 below-check-1 = omega arith

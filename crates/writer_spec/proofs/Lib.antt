@@ -8,6 +8,10 @@ pub mod Given
 -- how long a file is, and which numbers a file has room for:
 pub mod Lengths
 pub mod Widths
+pub mod Words
+-- what is written without minus zero:
+pub mod SameBits
+pub mod Cleaned
 -- what the writer promises: the one file, the reader's verdict, a file saved again:
 pub mod OneFile
 pub mod Saved

@@ -1,4 +1,4 @@
--- What is written is the one file that reads back as the sketch; and a file that is read and written again is that file.
+-- What is written is the one file without minus zero that reads back as the sketch.
 use mathlib.Core.Path.{_≡_, refl, sym, ap, subst, _∙_}
 use mathlib.Core.List.{List, [], _∷_, _++_, map}
 use mathlib.Core.Bool.{Bool, true, false, _&&_, _||_, true≢false}
@@ -6,20 +6,24 @@ use Prim.Native.Nat.{ℕ, zero, suc, _/_, _%_, _≤_}
 use native.Mathlib.Omega.{arith}
 use lib.ListN.{length}
 use lib.Dec.{eqb}
-use borrow.Author.Tests.{eq-eqb, le-ltb}
-use Rattle.limits.specs.Limits.{kindSettings, kindLine, kindLink, settingsSize, pointSize, linkSize, mostBytes}
+use borrow.Author.Tests.{eq-eqb, le-ltb, not-false}
+use Rattle.limits.specs.Limits.{kindSettings, kindLine, kindLink, settingsSize, pointSize, linkSize, mostBytes, refusedCoordinates}
 use Rattle.lists.specs.Members.{All}
 use Rattle.lists.proofs.Members.{in-all, all-append, all-map, all-imp}
 use Rattle.drawing_spec.specs.Bytes.{bytes}
-use Rattle.drawing_spec.specs.Drawing.{PointOf, Settings, LinkOf, Pattern, Sketch, linking}
-use Rattle.drawing_spec.specs.Refusal.{refused, accepted, verdict}
-use Rattle.drawing_spec.proofs.Refusal.{behind-accepted, both-accepted}
-use Rattle.drawing_spec.proofs.Accepted.{accepted-passes, every-map, sketch-no-links}
-use Rattle.drawing_spec.specs.Read.{Record, recordsOf, isCut, bodies, sketchOf, every, kindsFit, linesThenLinks, lengthsFit, sketchConditions, recordConditions, readConditions}
+use Rattle.drawing_spec.specs.Drawing.{PointOf, Settings, LinkOf, Pattern, Sketch, linking, over}
+use Rattle.drawing_spec.specs.Refusal.{refused, accepted, verdict, holds}
+use Rattle.drawing_spec.proofs.Refusal.{behind-accepted, both-accepted, fails}
+use Rattle.drawing_spec.proofs.Accepted.{conditions-are, accepted-passes, every-map, sketch-no-links}
+use Rattle.drawing_spec.specs.Cleaned.{cleaned, cleanedFile, Plain}
+use Rattle.drawing_spec.proofs.Cleaned.{cleaned-drawing, cleaned-conditions, same-conditions, cleaned-plain}
+use Rattle.drawing_spec.specs.Read.{Record, recordsOf, isCut, bodies, sketchOf, placed, drawingOf, every, kindsFit, linesThenLinks, lengthsFit, coordinatesFit, sketchConditions, recordConditions, readConditions}
 use Rattle.writer_spec.specs.File.{recordBytes, joined, settingsBytes, spotBytes, lineBytes, linkBytes, settingsAsRecord, lineAsRecord, linkAsRecord, recordsFor, fileOf}
+use Rattle.writer_spec.specs.Save.{savedFile}
 use Rattle.writer_spec.specs.OneFile.{Byte, ReadsAs, OneFile, Held, Patterned}
 use Rattle.writer_spec.proofs.Back.{Whole, record-parts, settings-bytes, link-bytes, records-joined, joined-uncut, line-length, bodies-lines, bodies-links, sketch-back}
-use Rattle.writer_spec.proofs.Again.{file-again}
+use Rattle.writer_spec.proofs.SameBits.{bitsAt, same-bits}
+use Rattle.writer_spec.proofs.Cleaned.{cleaned-patterned, cleaned-written, plain-written, drawing-bits}
 use Rattle.writer_spec.proofs.Lengths.{pointsIn, settings-length, link-length, file-length, file-short, below-check-1}
 use Rattle.writer_spec.proofs.Widths.{short-lines, taken-counts, taken-held}
 
@@ -99,10 +103,6 @@ records-pass : (file : List ℕ) → length file ≤ mostBytes → isCut file �
 unfolding recordConditions verdict
 records-pass file s w k l = rw (le-ltb mostBytes (length file) s, w, k, l)
 
-conditions-are : (file : List ℕ) → readConditions file ≡ recordConditions file ++ sketchConditions (sketchOf (recordsOf file))
-unfolding readConditions
-conditions-are file = refl
-
 -- a sketch, right or wrong, whose numbers fit the widths of a file and whose file passes check 1
 module _ (s : Sketch) (h : Held s) (short : length (fileOf s) ≤ mostBytes) where
   whole-records : All Whole (recordsFor s)
@@ -124,15 +124,9 @@ module _ (s : Sketch) (h : Held s) (short : length (fileOf s) ≤ mostBytes) whe
       ∙ behind-accepted (recordConditions (fileOf s)) (sketchConditions (sketchOf (recordsOf (fileOf s)))) passes-records
       ∙ ap (λ (t : Sketch). verdict (sketchConditions t)) sketch-read
 
--- ---- a file that the reader takes, written again
-
-module _ (file : List ℕ) (b : All Byte file) (e : verdict (readConditions file) ≡ accepted) where
-  pub read-written : fileOf (sketchOf (recordsOf file)) ≡ file
-  read-written = let p = accepted-passes file e in file-again file b (p .is-whole) (p .in-order) (p .long)
-
-  -- Where the planner makes the links, none stand in what was read, so a drawing that was planned is saved without links.
-  pub flagged-no-links : linking (sketchOf (recordsOf file) .settings) ≡ true → sketchOf (recordsOf file) .links ≡ []
-  flagged-no-links h = sketch-no-links file (accepted-passes file e) h
+-- Where the planner makes the links, none stand in what was read, so a drawing that was planned is saved without links.
+pub flagged-no-links : (file : List ℕ) → verdict (readConditions file) ≡ accepted → linking (sketchOf (recordsOf file) .settings) ≡ true → sketchOf (recordsOf file) .links ≡ []
+flagged-no-links file e h = sketch-no-links file (accepted-passes file e) h
 
 -- ---- what is written is made of bytes
 
@@ -207,21 +201,57 @@ file-in-bytes s = joined-in-bytes (recordsFor s) (settings-in-bytes (s .settings
 
 -- ---- the one file
 
--- The file of every sketch that the writer takes, and whose coordinates have 64 bits each, reads back as it, and no other file does.
-pub one-file : (s : Sketch) → Patterned s → verdict (sketchConditions s) ≡ accepted → OneFile s (fileOf s)
-one-file s p e =
-    let h = taken-held s e p in
-    let f = file-short s (taken-counts s e) in
-    let b = below-check-1 in
-    let short : length (fileOf s) ≤ mostBytes = omega arith in
-    record {
-      reads = record { in-bytes = file-in-bytes s; taken = same-verdict s h short ∙ e; same = sketch-read s h short };
-      only = λ other r. sym (read-written other (r .in-bytes) (r .taken)) ∙ ap fileOf (r .same);
-    }
+drawing-is : (file : List ℕ) → drawingOf (recordsOf file) ≡ over placed (sketchOf (recordsOf file))
+unfolding drawingOf
+drawing-is file = refl
+
+module _ (s : Sketch) (p : Patterned s) (e : verdict (sketchConditions s) ≡ accepted) where
+  cleaned-taken : verdict (sketchConditions (cleaned s)) ≡ accepted
+  cleaned-taken = ap verdict (cleaned-conditions s) ∙ e
+
+  cleaned-held : Held (cleaned s)
+  cleaned-held = taken-held (cleaned s) cleaned-taken (cleaned-patterned s p)
+
+  cleaned-short : length (fileOf (cleaned s)) ≤ mostBytes
+  cleaned-short = let f = file-short (cleaned s) (taken-counts (cleaned s) cleaned-taken) in let b = below-check-1 in omega arith
+
+  saved-bits : sketchOf (recordsOf (savedFile s)) ≡ cleaned s
+  unfolding savedFile
+  saved-bits = sketch-read (cleaned s) cleaned-held cleaned-short
+
+  saved-reads : ReadsAs s (savedFile s)
+  unfolding savedFile
+  saved-reads = record {
+    in-bytes = file-in-bytes (cleaned s);
+    taken = same-verdict (cleaned s) cleaned-held cleaned-short ∙ cleaned-taken;
+    same = drawing-is (savedFile s) ∙ ap (over placed) saved-bits ∙ cleaned-drawing s;
+  }
+
+  on-grid : coordinatesFit s ≡ true
+  unfolding sketchConditions holds
+  on-grid = not-false (coordinatesFit s) (fails (sketchConditions s) e refusedCoordinates)
+
+  -- what reads as the sketch has its bits, both cleaned
+  others-cleaned : (other : List ℕ) → ReadsAs s other → cleanedFile other ≡ savedFile s
+  unfolding savedFile
+  others-cleaned other r =
+      sym (cleaned-written other (r .in-bytes) (r .taken))
+      ∙ ap fileOf (sym (drawing-bits other (r .in-bytes) (r .taken)) ∙ ap (over bitsAt) (r .same) ∙ same-bits s p on-grid)
+
+  -- For every sketch that the writer takes, and whose coordinates have 64 bits each, what is saved is that one file.
+  pub one-file : OneFile s (savedFile s)
+  one-file = record {
+    reads = saved-reads;
+    plain = subst Plain (sym saved-bits) (cleaned-plain s);
+    only = λ other w r. sym (plain-written other (r .in-bytes) (r .taken) w) ∙ others-cleaned other r;
+    only-cleaned = others-cleaned;
+    bits = saved-bits;
+  }
 
 -- And of a sketch that the writer refuses there is no such file: nothing is refused that could have been saved.
 pub refused-unread : (s : Sketch) (n : ℕ) → verdict (sketchConditions s) ≡ refused n → (file : List ℕ) → ReadsAs s file → ⊥
 refused-unread s n e file r =
     let taken = both-accepted (recordConditions file) (sketchConditions (sketchOf (recordsOf file))) (ap verdict (sym (conditions-are file)) ∙ r .taken) .1 in
-    let z : accepted ≡ refused n = sym (ap (λ (t : Sketch). verdict (sketchConditions t)) (sym (r .same)) ∙ taken) ∙ e in
+    let alike = same-conditions (sketchOf (recordsOf file)) s (sym (drawing-is file) ∙ r .same) in
+    let z : accepted ≡ refused n = sym (sym (ap verdict alike) ∙ taken) ∙ e in
     true≢false (cc)

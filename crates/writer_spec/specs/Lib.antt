@@ -5,5 +5,5 @@ pub mod File
 pub mod Save
 -- a drawing as a caller hands it in, in lists of numbers:
 pub mod Given
--- what it means that a file reads back as a sketch, and that no other does:
+-- what it means that a file reads back as a sketch, and that no other does, minus zero aside:
 pub mod OneFile

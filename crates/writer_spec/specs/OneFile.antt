@@ -1,11 +1,12 @@
--- The one file that reads back as a sketch.
+-- The one file without minus zero that reads back as a sketch.
 use Prim.Native.Nat.{ℕ, _<_, _^_}
 use mathlib.Core.Path.{_≡_}
 use mathlib.Core.List.{List}
 use Rattle.lists.specs.Members.{All}
-use Rattle.drawing_spec.specs.Drawing.{PointOf, Settings, EndOf, LinkOf, Pattern, Sketch}
+use Rattle.drawing_spec.specs.Drawing.{PointOf, Settings, EndOf, LinkOf, Pattern, Sketch, over}
 use Rattle.drawing_spec.specs.Refusal.{accepted, verdict}
-use Rattle.drawing_spec.specs.Read.{recordsOf, sketchOf, readConditions}
+use Rattle.drawing_spec.specs.Read.{placed, recordsOf, sketchOf, drawingOf, readConditions}
+use Rattle.drawing_spec.specs.Cleaned.{cleaned, cleanedFile, WithoutMinusZero}
 
 abbrev pub Byte : ℕ → Type 0
 Byte b = b < 256
@@ -14,16 +15,21 @@ Byte b = b < 256
 abbrev pub Word : ℕ → Type 0
 Word w = w < 256 ^ 8
 
--- the reader takes these bytes, and what it reads is the sketch
+-- the reader takes these bytes, and what it reads is the drawing that the sketch is
 pub record ReadsAs (s : Sketch) (file : List ℕ) : Type 0 where
   pub in-bytes : All Byte file
   pub taken : verdict (readConditions file) ≡ accepted
-  pub same : sketchOf (recordsOf file) ≡ s
+  pub same : drawingOf (recordsOf file) ≡ over placed s
 
--- what the reader takes and reads as the sketch is this file, and no other
+-- Of the files without minus zero, the reader takes this one and no other as the sketch.
 pub record OneFile (s : Sketch) (file : List ℕ) : Type 0 where
   pub reads : ReadsAs s file
-  pub only : (other : List ℕ) → ReadsAs s other → other ≡ file
+  pub plain : WithoutMinusZero file
+  pub only : (other : List ℕ) → WithoutMinusZero other → ReadsAs s other → other ≡ file
+  -- whatever file it takes as the sketch, cleaned it is this one
+  pub only-cleaned : (other : List ℕ) → ReadsAs s other → cleanedFile other ≡ file
+  -- and this one holds the sketch's own bits, with plain zero for minus zero
+  pub bits : sketchOf (recordsOf file) ≡ cleaned s
 
 -- ---- numbers of the width that a file has for them
 

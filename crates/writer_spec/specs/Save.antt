@@ -8,14 +8,20 @@ use Rattle.drawing_spec.specs.Bytes.{inFront}
 use Rattle.drawing_spec.specs.Drawing.{Sketch}
 use Rattle.drawing_spec.specs.Refusal.{Condition, condition, Verdict, refused, accepted, verdict}
 use Rattle.drawing_spec.specs.Read.{recordsOf, sketchOf, recordConditions, sketchConditions}
+use Rattle.drawing_spec.specs.Cleaned.{cleaned}
 use Rattle.writer_spec.specs.File.{fileOf}
+
+-- what is saved: the file of the sketch with a plain zero for each minus zero
+unfoldable pub savedFile : Sketch → List ℕ
+unfolding fileOf cleaned
+savedFile s = fileOf (cleaned s)
 
 -- ---- the conditions: 5, 6, 15, 7, 8, then 16
 
 -- room is the destination's length
 unfoldable pub writeConditions : Sketch → ℕ → List Condition
-unfolding sketchConditions fileOf
-writeConditions s room = sketchConditions s ++ condition refusedDestination (ltb room (length (fileOf s))) ∷ []
+unfolding sketchConditions savedFile
+writeConditions s room = sketchConditions s ++ condition refusedDestination (ltb room (length (savedFile s))) ∷ []
 
 -- ---- the answer, and the destination afterwards
 
@@ -30,9 +36,9 @@ pub record Saved : Type 0 where
 
 -- Refused, the destination keeps all its bytes; otherwise it holds the file, and its later bytes keep their value.
 unfoldable pub answered : Sketch → List ℕ → Verdict → Saved
-unfolding fileOf
+unfolding savedFile
 answered s destination (refused n) = record { answer = refusal n; destination = destination }
-answered s destination accepted = record { answer = written (length (fileOf s)); destination = inFront (fileOf s) destination }
+answered s destination accepted = record { answer = written (length (savedFile s)); destination = inFront (savedFile s) destination }
 
 unfoldable pub save : Sketch → List ℕ → Saved
 unfolding verdict writeConditions answered

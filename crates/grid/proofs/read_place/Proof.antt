@@ -1,20 +1,17 @@
 -- `grid::read_place` meets its contract: each return is the law of `Fields` for the fields that lead there. Assumes nothing.
-use mathlib.Core.Path.{_≡_, refl, sym, ap, _∙_}
+use mathlib.Core.Path.{_≡_, sym, ap, _∙_}
 use Prim.Native.Nat.{ℕ, _+_, _-_, _*_, _/_, _%_, _^_, _≤_, _<_}
 use native.Mathlib.Omega.{arith}
 use mathlib.Core.Bool.{Bool, true, false, cond}
 use borrow.Author.Needs.{needs}
 use borrow.Author.Tests.{le-leb, lt-leb}
 use Rattle.grid.specs.declared.Place.the-variants.{On}
-use Rattle.grid.specs.Grid.{gridExponent, origin, placeOfSteps, readOnGrid, readPlace}
-use Rattle.grid.proofs.Same.{not-negative-zero, at-place}
+use Rattle.grid.specs.Grid.{gridExponent, origin, placeOfSteps, readPlace}
+use Rattle.grid.proofs.Same.{at-place}
+use Rattle.grid.proofs.Back.{zero-read}
 use Rattle.grid.proofs.Fields.{negative, exponent, digits, part-of-step, too-far, read-below, read-above, read-between, shifts-back, shifts-off}
 use Rattle.grid.proofs.read_place.Statement.{statement}
 use Rattle.grid.proofs.read_place.Tie as tie
-
-zero : readOnGrid gridExponent 0 ≡ On origin
-unfolding readOnGrid
-zero = refl
 
 -- the code's locals
 abbrev whole : ℕ → ℕ
@@ -37,16 +34,16 @@ on : (b : ℕ) (s : Bool) → negative b ≡ s → 1013 ≤ exponent b → expon
 on b s e h k w n =
     between b h k
     ∙ ap (λ (s : Bool). placeOfSteps origin s (whole b) (2 ^ below b)) e
-    ∙ at-place origin s (whole b) (2 ^ below b) (shifts-back (whole b) (2 ^ below b) (whole-fits b) w) n (not-negative-zero s (whole b) (omega arith))
+    ∙ at-place origin s (whole b) (2 ^ below b) (shifts-back (whole b) (2 ^ below b) (whole-fits b) w) n
 
 returns : tie.Need-returns
-returns c = sym (ap (readOnGrid gridExponent) (c .if1 .taken) ∙ zero)
+returns c = sym (zero-read gridExponent (c .before .before .args .bits) (search needs) (omega arith))
 
 returns-2 : tie.Need-returns-2
-returns-2 c = sym (read-below gridExponent (c .before .before .args .bits) (search needs) (c .before .if1 .left) (omega arith))
+returns-2 c = sym (read-below gridExponent (c .before .before .args .bits) (search needs) (c .if2 .left) (omega arith))
 
 returns-3 : tie.Need-returns-3
-returns-3 c = sym (read-above gridExponent (c .before .before .before .args .bits) (omega arith))
+returns-3 c = sym (read-above gridExponent (c .before .before .args .bits) (omega arith))
 
 add-digits : tie.Need-add-digits
 add-digits c = search needs
@@ -62,7 +59,7 @@ shl-if4 c = search needs
 
 returns-4 : tie.Need-returns-4
 returns-4 c =
-    let b = c .before .before .before .before .args .bits in
+    let b = c .before .before .before .args .bits in
     sym (between b (omega arith) (omega arith) ∙ part-of-step origin (negative b) (whole b) (2 ^ below b) (shifts-off (whole b) (2 ^ below b) (whole-fits b) (c .if4 .taken)))
 
 cast-if5 : tie.Need-cast-if5
@@ -70,26 +67,26 @@ cast-if5 c = search needs
 
 returns-5 : tie.Need-returns-5
 returns-5 c =
-    let b = c .before .before .before .before .before .args .bits in
+    let b = c .before .before .before .before .args .bits in
     sym (between b (omega arith) (omega arith) ∙ too-far origin (negative b) (whole b) (2 ^ below b) (omega arith))
 
 cast-count : tie.Need-cast-count
 cast-count c = search needs
 
-add-t10 : tie.Need-add-t10
-add-t10 c = search needs
+add-t12 : tie.Need-add-t12
+add-t12 c = search needs
 
-sub-t11 : tie.Need-sub-t11
-sub-t11 c = search needs
+sub-t13 : tie.Need-sub-t13
+sub-t13 c = search needs
 
 returns-6 : tie.Need-returns-6
 returns-6 c =
-    let b = c .before .before .before .before .before .before .args .bits in
+    let b = c .before .before .before .before .before .args .bits in
     sym (on b false (lt-leb (2 ^ 63) b (omega arith)) (omega arith) (omega arith) (c .before .before .if4 .left) (omega arith))
 
 returns-7 : tie.Need-returns-7
 returns-7 c =
-    let b = c .before .before .before .before .before .before .args .bits in
+    let b = c .before .before .before .before .before .args .bits in
     sym (on b true (le-leb (2 ^ 63) b (omega arith)) (omega arith) (omega arith) (c .before .before .if4 .left) (omega arith))
 
 pub read-place-spec : {M : Type 1} → statement M
@@ -107,7 +104,7 @@ read-place-spec =
     cast-if5
     returns-5
     cast-count
-    add-t10
-    sub-t11
+    add-t12
+    sub-t13
     returns-6
     returns-7)

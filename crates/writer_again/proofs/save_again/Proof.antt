@@ -3,7 +3,7 @@ use mathlib.Core.Path.{_∙_}
 use Rattle.lists.specs.Members.{All}
 use Rattle.writer_spec.specs.OneFile.{Byte}
 use Rattle.lists.proofs.Members.{all-by-place}
-use Rattle.writer_again.proofs.Again.{refused-again, savable-again, accepted-again, writes-itself}
+use Rattle.writer_again.proofs.Again.{refused-again, savable-again, accepted-again, writes-cleaned}
 use borrow.Author.Needs.{needs}
 use Rattle.writer_again.proofs.save_again.Statement.{statement}
 use Rattle.writer_again.proofs.save_again.Tie as tie
@@ -36,7 +36,7 @@ returns-2 c =
     let b : All Byte (a .file .now) = all-by-place Byte 0 (a .file .now) (λ i. r .before .before .shared-slice-known .given i .fits) in
     let saved = c .before .before .save-arrays .ensures ∙ accepted-again (a .file .now) (r .read .result) (r .read .ensures) (c .before .before .before .before .before .enum-told .given .1) b (a .destination .now) in
     let w = c .before .before .save-arrays in
-    (saved, writes-itself (a .file .now) (a .destination .now) b (w .result) (w .last .1 .0) saved)
+    (saved, writes-cleaned (a .file .now) (a .destination .now) b (w .result) (w .last .1 .0) saved)
 
 pub save-again-spec : {M : Type 1} → statement M
 save-again-spec =

@@ -1,27 +1,31 @@
--- `writer_records::write_coordinates` meets its contract. The invariant: the coordinates that are left, stored from here on, give all. Assumes nothing.
+-- `writer_records::write_coordinates` meets its contract. The invariant: the coordinates that are left, cleaned and stored from here on, give all. Assumes nothing.
 use Prim.Native.Nat.{_+_, _*_, _≤_}
 use native.Mathlib.Omega.{arith}
-use mathlib.Core.Path.{refl}
+use mathlib.Core.List.{map}
 use lib.ListN.{length}
-use Rattle.writer_records.proofs.StoredLaws.{Putting, put-none, put-more, put-all}
+use Rattle.grid.specs.Grid.{clean}
+use Rattle.writer_records.proofs.StoredLaws.{Putting, put-none-clean, clean-at, put-more, put-all}
 use borrow.Author.Needs.{needs}
 use Rattle.writer_records.proofs.write_coordinates.Statement.{statement}
 use Rattle.writer_records.proofs.write_coordinates.Tie as tie
 
 abbrev Inv-loop : tie.InvT-loop
-Inv-loop destination₀ at words from count place₀ next₀ left₀ destination place next left = Putting 8 destination₀ at words from count destination place next left × (place + 8 * left ≤ length destination₀)
+Inv-loop destination₀ at words from count place₀ next₀ left₀ destination place next left = Putting 8 destination₀ at (map clean words) from count destination place next left × (place + 8 * left ≤ length destination₀) × (next + left ≤ length words)
 
 abbrev μ-loop : tie.MeasureT-loop
 μ-loop destination₀ at words from count place₀ next₀ left₀ destination place next left = left
 
 loop-holds : tie.Need-loop-holds Inv-loop μ-loop
-loop-holds c = (put-none _ _ _ _ _ _ (c .before .before .pre .1), c .before .before .pre .0)
+loop-holds c = (put-none-clean _ _ (c .before .before .args .words .now) _ _ (c .before .before .pre .1), c .before .before .pre .0, c .before .before .pre .1)
 
-mul-write-number : tie.Need-mul-write-number Inv-loop μ-loop
-mul-write-number c = search needs
+mul-clean : tie.Need-mul-clean Inv-loop μ-loop
+mul-clean c = search needs
 
-shared-slice-read-write-number : tie.Need-shared-slice-read-write-number Inv-loop μ-loop
-shared-slice-read-write-number c = search needs
+shared-slice-read-clean : tie.Need-shared-slice-read-clean Inv-loop μ-loop
+shared-slice-read-clean c = search needs
+
+clean-requires : tie.Need-clean-requires Inv-loop μ-loop
+clean-requires c κs = search needs
 
 write-number-requires : tie.Need-write-number-requires Inv-loop μ-loop
 write-number-requires c κs = search needs
@@ -39,7 +43,13 @@ loop-less : tie.Need-loop-less Inv-loop μ-loop
 loop-less c = search needs
 
 loop-again : tie.Need-loop-again Inv-loop μ-loop
-loop-again c = (put-more _ _ _ _ _ _ _ _ _ _ _ _ (c .before .before .before .before .before .loop-test .taken) refl (c .before .before .write-number .ensures) (c .before .before .before .before .before .before .loop .inv .0), omega arith)
+loop-again c =
+    let now = c .before .before .before .before .before .before .before .loop in
+    let words = c .before .before .before .before .before .before .before .before .before .before .args .words .now in (
+      put-more _ _ _ _ _ _ _ _ _ _ _ _ (c .before .before .before .before .before .before .loop-test .taken) (clean-at words (now .next) _ (c .before .before .before .before .clean .ensures)) (c .before .before .write-number .ensures) (now .inv .0),
+      omega arith,
+      omega arith,
+    )
 
 same-length : tie.Need-same-length Inv-loop μ-loop
 same-length c = search needs
@@ -54,8 +64,9 @@ write-coordinates-spec =
     Inv-loop
     μ-loop
     loop-holds
-    mul-write-number
-    shared-slice-read-write-number
+    mul-clean
+    shared-slice-read-clean
+    clean-requires
     write-number-requires
     add-place
     add-next
