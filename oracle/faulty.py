@@ -34,6 +34,9 @@ FAULTS = {
     "changes the byte behind the record": "if (!r.refusal && ol > 6 + 16 * r.points) o[6 + 16 * r.points] ^= 1;",
     "writes behind the output": "o[ol] = 0;",
     "changes a bit of a point": "if (!r.refusal && r.points) o[6] ^= 1;",
+    "writes the last point twice": "if (!r.refusal && r.points && ol >= 22 + 16 * r.points) { memcpy(o + 6 + 16 * r.points, o + 16 * r.points - 10, 16);"
+    " uint32_t l = 16 * ++r.points; memcpy(o, &l, 4); }",
+    "leaves the last point out": "if (!r.refusal && r.points) { uint32_t l = 16 * --r.points; memcpy(o, &l, 4); memcpy(o + 6 + l, was + 6 + l, 16); }",
     "gives points for a refused file": "if (r.refusal) r.points = 1;",
     "gives a retrace of -0.0": "if (!r.refusal && r.retrace == 0) r.retrace = -0.0;",
     "counts one odd node more": "r.after += !r.refusal;",

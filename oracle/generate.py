@@ -999,6 +999,250 @@ def minus_zero_older(rng):
     return bytes(file), lent
 
 
+# ---- Kinds with busy nodes and many edges: for the walk's counts of the edges at a node, and for its marks of used edges. ----
+
+def beside(rng, least, most):
+    """A number at or beside a multiple of 8, 32, 64 or 256."""
+    unit = rng.choice([8, 32, 64, 64, 256])
+    return max(least, min(most, unit * rng.randint(least // unit, most // unit) + rng.choice([-1, 0, 0, 1])))
+
+
+def busy(rng, most):
+    """How many edges a busy node is to have: where eight, nine or ten bits are full, the most, or any number."""
+    return min(most, rng.choice([rng.randint(254, 258), rng.randint(254, 258), rng.randint(254, 258), rng.randint(510, 514),
+                                 rng.randint(1022, 1026), most - rng.choice([0, 0, 1, 2]), rng.randint(250, most)]))
+
+
+def places(rng, count, reach=60 * STEP, but=()):
+    """So many different places, none of those that are left out."""
+    found = dict.fromkeys(spot(rng, reach) for _ in range(count + len(but)))
+    while len(found) < count + len(but):
+        found[spot(rng, reach)] = None
+    return [place for place in found if place not in but][:count]
+
+
+def through(rng, hub, leaves, segments):
+    """A line of so many segments, each with the hub at one end."""
+    is_hub = rng.random() < 0.5
+    return [hub if (k + is_hub) % 2 else rng.choice(leaves) for k in range(segments + 1)]
+
+
+def parts(rng, whole, count):
+    """So many whole numbers from 1 on with this sum."""
+    cuts = [0, *sorted(rng.sample(range(1, whole), count - 1)), whole]
+    return [b - a for a, b in zip(cuts, cuts[1:])]
+
+
+def drawn_again(rng, lines, count):
+    """Links between the two ends of segments that are drawn, so that they split nothing; each end may be named by any segment that has it."""
+    at = {}
+    for number, line in enumerate(lines):
+        for segment, ends in enumerate(zip(line, line[1:])):
+            for place in ends:
+                at.setdefault(place, []).append((number, segment))
+    pairs = [pair for line in lines for pair in zip(line, line[1:])]
+    return [(*rng.choice(at[a]), a, *rng.choice(at[b]), b) for a, b in (rng.sample(rng.choice(pairs), 2) for _ in range(count))]
+
+
+def paired(rng, odd, largest=None):
+    """Any settings, Optimal only where there are few odd nodes or, now and then, to be refused."""
+    settings = any_settings(rng, largest)
+    settings["pairing"] = int(rng.random() < (0.5 if odd <= 10 else 0.05))
+    return settings
+
+
+def busy_node(rng):
+    """One node with 250 to 1,278 edges before repair: lines out and back, through it and ending at it, and links."""
+    wanted, hub = busy(rng, rng.choice([1023, 1023, 1278])), spot(rng, 50 * STEP)
+    leaves = places(rng, rng.choice([1, 2, 3, 8, 8, 40, 300]), but=[hub])
+    linked = max(wanted - 1023, min(255, wanted - 1) if rng.random() < 0.2 else rng.choice([0, 0, rng.randint(0, 100)]))
+    count = min(rng.choice([1, 1, 1, 2, 9, 60]), 1024 - (wanted - linked), wanted - linked)
+    lines = [through(rng, hub, leaves, segments) for segments in parts(rng, wanted - linked, count)]
+    links = drawn_again(rng, lines, linked)
+    if rng.random() < 0.3 and sum(map(len, lines)) < 1010:
+        # Other ways from leaf to leaf.
+        lines.append([rng.choice(leaves) for _ in range(rng.randint(2, 14))])
+    return write(lines, links, **paired(rng, len(leaves), rng.choice([60, None]))), FULL
+
+
+# The square of a distance at which 288 places lie about (0, 0), in grid steps.
+ROUND_SQUARED = 5**2 * 13**2 * 17 * 29 * 37
+ROUND = []
+
+
+def round_places():
+    """All places at that distance."""
+    if not ROUND:
+        for x in range(math.isqrt(ROUND_SQUARED) + 1):
+            y = math.isqrt(ROUND_SQUARED - x * x)
+            if x * x + y * y == ROUND_SQUARED:
+                ROUND.extend((sx * x, sy * y) for sx in (1, -1) for sy in (1, -1))
+    return ROUND
+
+
+def busy_links(rng):
+    """One node with up to 1,787 edges before repair, three by each link: its segment is split there and at a place as far from the start."""
+    hub, *others = rng.sample(round_places(), 1 + rng.choice([1, 2, 2, 8, 50, 255]))
+    # A link from the hub to a place Q: the chain start, hub, Q, hub, Q, .., end, and the link itself.
+    wanted = busy(rng, rng.choice([767, 1023, 1787]))
+    count = min(255, rng.choice([wanted // 3, wanted // 3, rng.randint(1, wanted // 3)]))
+    count = max(count, -(-(wanted - 1022) // 3))
+    tail = min(1022, wanted - 3 * count)
+    ends = [((0, 0, hub), (0, 0, rng.choice(others))) for _ in range(count)]
+    if rng.random() < 0.3:
+        ends = [rng.sample(pair, 2) for pair in ends]
+    line = [(0, 0), spot(rng, 9 * STEP)] + [hub if k % 2 == 0 else rng.choice(others) for k in range(tail)]
+    return write([line], [a + b for a, b in ends], **paired(rng, len(others), rng.choice([9, None]))), FULL
+
+
+def busy_pair(rng):
+    """One segment gone over again and again, 250 to 1,023 times and up to 255 more by links, alone and within a drawing."""
+    a, b, c, e = places(rng, 4)
+    around = rng.choice([[], [], [], [[a, c]], [[a, c], [b, e]], [[a, c, b]], [[a, c, a]], [[c, e, b, c]], [[a, c, e, a], [e, b]], [[c, a], [a, e]]])
+    room = 1023 - sum(map(len, around))
+    wanted = busy(rng, rng.choice([room, room, room + 255]))
+    linked = max(wanted - room, rng.choice([0, 0, 0, rng.randint(0, 60)]))
+    count = min(rng.choice([1, 1, 1, 2, 2, 7, 100]), room + 1 - (wanted - linked))
+    lines = [through(rng, a, [b], segments) for segments in parts(rng, wanted - linked, count)]
+    return write(lines + around, drawn_again(rng, lines, linked), **any_settings(rng, rng.choice([60, None]))), FULL
+
+
+def busiest(flags):
+    """The most edges at one node that we know a drawing for, 2,298 where the line is closed: 256 lines of 1,024 points, with ends of their own,
+    and 255 links that each split a segment at the hub and at a place of their own. These 766 places are odd, and every retrace goes through the hub."""
+    hub, *others = round_places()[:256]
+    leaves = iter([(20 * STEP + 7 * k, 3 * k * k % 5000) for k in range(1024)])
+    leaf = lambda: next(leaves)
+    lines = [[(0, 0), (9 * STEP, 5), hub, leaf()], [leaf(), hub, leaf(), hub]]
+    lines += [[leaf(), hub, leaf()] for _ in range(127)] + [[leaf(), hub, leaf(), hub, leaf()] for _ in range(127)]
+    return write(lines, [(0, 0, hub, 0, 0, place) for place in others], flags=flags)
+
+
+def busy_retraces(rng):
+    """Rays from one node, so that all retraces go through it: as many edges there again as rays, up to 1,024, and now and then 2,298."""
+    if rng.random() < 0.03:
+        return busiest(rng.randrange(4)), FULL
+    rays = rng.choice([rng.randint(3, 20), rng.randint(62, 66), rng.randint(126, 130), rng.randint(126, 130), rng.randint(254, 258),
+                       rng.choice([300, 511, 512])])
+    hub, knees = spot(rng, 50 * STEP), rng.choice([1, 1, 1, 2, 3]) if rays < 150 else 1
+    tips = places(rng, rays * knees, but=[hub])
+    arms = [tips[k * knees:(k + 1) * knees] for k in range(rays)]
+    lines = []
+    while arms:
+        # Two rays in a line, or one.
+        one, other = arms.pop(), arms.pop() if arms and (rays > 250 or rng.random() < 0.7) else []
+        lines.append(one[::-1] + [hub] + other)
+    if rng.random() < 0.3 and rays < 300:
+        # A way from tip to tip, which shortens some retraces.
+        lines.append(rng.sample(tips, 3))
+    rng.shuffle(lines)
+    return write(lines, **paired(rng, rays, rng.choice([60, None]))), FULL
+
+
+def stay(rng, line):
+    """The line with points that follow themselves."""
+    share = rng.choice([0.1, 0.5, 1])
+    return [p for p in line for _ in range(rng.choice([2, 2, 3, 5]) if rng.random() < share else 1)]
+
+
+def standing_lines(rng):
+    """Lines over a few places, each begun where an earlier one was, in which points follow themselves, and lines of one place."""
+    cells = [(x * STEP, y * STEP) for x in range(rng.randint(1, 4)) for y in range(rng.randint(1, 4))]
+    lines, seen = [], [rng.choice(cells)]
+    for _ in range(rng.randint(1, 6)):
+        first = rng.choice(seen)
+        lines.append(stay(rng, [first] + [rng.choice(cells) for _ in range(rng.choice([0, 0, 1, 3, 6]))]))
+        seen += lines[-1]
+    return lines
+
+
+def staying(rng):
+    """Points that follow themselves, lines of one place and links from a place to itself, of which none may become an edge."""
+    lines, out = standing_lines(rng), []
+    nodes = sorted({p for line in lines for p in line})
+    for _ in range(rng.randint(0, 6)):
+        la, lb = rng.randrange(len(lines)), rng.randrange(len(lines))
+        sa, sb = rng.choice(segments_of(lines[la])), rng.choice(segments_of(lines[lb]))
+        # A node, so that the link bends its segments over a place that is there; or any other.
+        place = rng.choice(nodes) if rng.random() < 0.7 else place_on(rng, lines[la], sa)
+        other = place if rng.random() < 0.7 else rng.choice(nodes)
+        out.append((la, sa, place, lb, sb, other))
+    return write(lines, out, **any_settings(rng, rng.choice([4, None]))), FULL
+
+
+def staying_made(rng):
+    """Flag 4: the same lines, whose ends often lie in one place, so that links of no length are made."""
+    lines = standing_lines(rng)
+    if rng.random() < 0.5:
+        # Closed ones, and dots where they close.
+        lines = [line + line[:1] for line in lines] + [[rng.choice(line)] for line in rng.sample(lines, rng.randint(0, len(lines)))]
+    rng.shuffle(lines)
+    return write(lines, **linking(rng, rng.choice([4, None]))), FULL
+
+
+def wander(rng, nodes, count, is_closed):
+    """A walk of so many steps over these places, never staying at one."""
+    walk = [rng.choice(nodes)]
+    while len(walk) <= count:
+        walk.append(rng.choice([p for p in nodes if p != walk[-1]]))
+    if is_closed and walk[-1] != walk[0]:
+        # The last step but one may not be made to the start.
+        spare = [p for p in nodes if p not in (walk[0], walk[-3])]
+        if spare:
+            walk[-2:] = [rng.choice(spare), walk[0]]
+    return walk
+
+
+def cut_up(rng, walk, count):
+    """The walk's steps as so many lines, in any order and direction."""
+    cuts = [0, *sorted(rng.sample(range(1, len(walk) - 1), count - 1)), len(walk) - 1]
+    lines = [walk[a:b + 1][::rng.choice([1, -1])] for a, b in zip(cuts, cuts[1:])]
+    rng.shuffle(lines)
+    return lines
+
+
+def repaired(rng, wanted):
+    """A hairpin with so many repaired edges, open or closed; None if its points pass a limit."""
+    q, flags = rng.choice([1, 3, 3, 5, 7]), rng.randrange(4)
+    retraces = q - 1 + (flags & 1)
+    n = (wanted - 2 * q - 2 * retraces) // (retraces + 1)
+    extra = wanted - (n + 2 * q + retraces * (n + 2))
+    if extra == 1:
+        n, extra = n - 1, extra + retraces + 1
+    # A closed line of one segment is none.
+    fits = n >= 2 and extra != 1 and n + 1 + 4 * q + (extra + 1 if extra else 0) <= 1024
+    return hairpin(n, q, extra, flags) if fits else None
+
+
+def many_edges(rng):
+    """Repaired edges, and the virtual edge's number with them, at and beside multiples of 8, 32 and 64, up to 4,000."""
+    if rng.random() < 0.05:
+        while True:
+            file = repaired(rng, rng.choice([4000, 3999, 4001, beside(rng, 60, 4000), beside(rng, 60, 4000)]))
+            if file:
+                return file, {}
+    nodes = places(rng, rng.choice([3, 5, 20, 100]))
+    count = beside(rng, 7, rng.choice([130, 130, 260, 520, 1016]))
+    walk = wander(rng, nodes, count, rng.random() < 0.5)
+    settings = any_settings(rng, rng.choice([60, None]))
+    # Closing an open one adds edges to it.
+    settings["flags"] &= rng.choice([2, 2, 3])
+    return write(cut_up(rng, walk, min(rng.choice([1, 1, 2, 5]), count, 1024 - count)), **settings), FULL
+
+
+def many_visits(rng):
+    """A walk that comes back to a node again and again: petals at one or two nodes, 60 to 520 edges, drawn in any order and some as links."""
+    count = beside(rng, 60, rng.choice([70, 140, 260, 520]))
+    hubs = places(rng, rng.choice([1, 1, 2]))
+    tips, walk = places(rng, rng.choice([4, 12, 60]), but=hubs), hubs[:1]
+    linked = rng.choice([0, 0, 0, 5, 30])
+    while len(walk) <= count - linked:
+        walk += wander(rng, tips, rng.randint(0, 4), False) + [rng.choice(hubs)]
+    # The last petal may be cut short.
+    lines = cut_up(rng, walk[:count - linked + 1], rng.choice([1, 1, 4, 9, 25]))
+    return write(lines, drawn_again(rng, lines, linked), **paired(rng, 2 * linked, rng.choice([60, None]))), FULL
+
+
 KINDS = {f.__name__: f for f in (tiny, walks, lattice, honeycomb, lace, comb, cube, near, overlap, zero, links, dots, empty, pieces,
                                  limits, edges, optimal, flags, output, damaged, big)}
 # Of change request 1.
@@ -1007,7 +1251,13 @@ LINKING_KINDS = {f.__name__: f for f in (made_touching, made_dots, made_closed, 
 # Of change request 3.
 MINUS_ZERO_KINDS = {f.__name__: f for f in (minus_zero_lines, minus_zero_links, minus_zero_beside, minus_zero_splits, minus_zero_dots,
                                             minus_zero_closed, minus_zero_made, minus_zero_refused, minus_zero_older)}
-KINDS |= LINKING_KINDS | MINUS_ZERO_KINDS
+# Of change request 4.
+BUSY_KINDS = {f.__name__: f for f in (busy_node, busy_links, busy_pair, busy_retraces, staying, staying_made, many_edges, many_visits)}
+KINDS |= LINKING_KINDS | MINUS_ZERO_KINDS | BUSY_KINDS
+
+# The part of COUNT that is made of the kinds that take long to make or to plan, where a run has many drawings.
+SHARE = dict(comb=1 / 100, big=1 / 100, made_many=1 / 100, made_long=1 / 50, honeycomb=1 / 20, near=1 / 5, lace=1 / 4, edges=1 / 4,
+             optimal=1 / 2, busy_retraces=1 / 10)
 
 
 def main():

@@ -31,6 +31,7 @@ extern crate petgraph;
 use petgraph::algo::dijkstra;
 use petgraph::graph::NodeIndex;
 use petgraph::visit::EdgeRef;
+use std::collections::BTreeMap;
 use std::io::{Read, Write};
 
 /// The published planner with document 01's stand-in for `hypot`.
@@ -110,6 +111,26 @@ fn counts(file: &[u8], lent: Lent) -> String {
     }
 }
 
+/// One line for --degrees, of the graph that the published walk goes through: the most edges at one node, and how many
+/// edges join a node to itself.
+fn degrees(file: &[u8], lent: Lent) -> String {
+    let graph = match plan(file, lent) {
+        Err(number) => return format!("refused {number}"),
+        Ok(p) => p.graph,
+    };
+    let (mut most, mut loops) = (0, 0);
+    for node in graph.node_indices() {
+        // By their numbers, so that it does not matter how often `edges` gives one that joins the node to itself.
+        let edges: BTreeMap<usize, NodeIndex> = graph.edges(node).map(|e| (e.id().index(), e.target())).collect();
+        let own = edges.values().filter(|&&target| target == node).count();
+        // Such an edge has two ends here. `hierholzer` adds the virtual edge to a copy of its own: it ends at the odd nodes.
+        let ends = edges.len() + own;
+        most = most.max(ends + ends % 2);
+        loops += own;
+    }
+    format!("degree {most} loops {loops}")
+}
+
 /// One line for --inside, to hold the stand-in for petgraph against petgraph itself: for each node of the
 /// repaired graph its edges in their order, and all costs from the first, the middle and the last node.
 fn inside(file: &[u8], lent: Lent) -> String {
@@ -155,9 +176,10 @@ fn batched(file: &[u8], lent: Lent) -> Vec<u8> {
     head.into_iter().flat_map(|n| (n as u32).to_le_bytes()).chain(file.iter().copied()).collect()
 }
 
-const USAGE: &str = "usage: oracle [--f64 N] [--bytes N] [--output N] [--counts | --inside]   < one drawing
+const USAGE: &str = "usage: oracle [--f64 N] [--bytes N] [--output N] [--counts | --degrees | --inside]   < one drawing
        oracle --links | --linked | --cleaned                              < one drawing
-       oracle --batch [--line | --counts | --inside | --links | --linked] < drawings in batch form
+       oracle --batch [--line | --counts | --degrees | --inside]          < drawings in batch form
+       oracle --batch --links | --linked                                  < drawings in batch form
        oracle --batch --cleaned                                           < drawings in batch form
        oracle --batch --read                                              < drawings in batch form
        oracle --saved                                                     < drawings handed over, in their batch form
@@ -210,6 +232,7 @@ enum Shown {
     Answer,
     AnswerInOneLine,
     Counts,
+    Degrees,
     Inside,
     Read,
     Links,
@@ -225,6 +248,7 @@ fn shown(what: Shown, file: &[u8], lent: Lent, is_batch: bool) -> Vec<u8> {
         Shown::Answer => rows(answer(file, lent)).into_bytes(),
         Shown::AnswerInOneLine => (answer(file, lent).join(" ") + "\n").into_bytes(),
         Shown::Counts => (counts(file, lent) + "\n").into_bytes(),
+        Shown::Degrees => (degrees(file, lent) + "\n").into_bytes(),
         Shown::Inside => (inside(file, lent) + "\n").into_bytes(),
         Shown::Read => format!("{}\n", reader::read(file).err().unwrap_or(0)).into_bytes(),
         Shown::Links => rows(made_links(file)).into_bytes(),
@@ -250,6 +274,7 @@ fn main() {
             "--batch" => is_batch = true,
             "--line" => what = Shown::AnswerInOneLine,
             "--counts" => what = Shown::Counts,
+            "--degrees" => what = Shown::Degrees,
             "--inside" => what = Shown::Inside,
             "--read" => what = Shown::Read,
             "--links" => what = Shown::Links,

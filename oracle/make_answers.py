@@ -351,6 +351,56 @@ def minus_zero_refused():
         yield f"minus zero: one point twice{ends}", d.drawing([[(0, 0), (M, M)]]), dict(output=22 + more)
 
 
+def with_busy_nodes():
+    """Drawings for the counts of the edges at a node, where they would be full, and for the marks of used edges."""
+    turns = lambda times: [[(4, 4), (9, 9)][k % 2] for k in range(times + 1)]
+    # The second end is the better start, so that it is seen if it is taken for a node without edges.
+    for times in (255, 256, 257, 512):
+        yield f"degree: a segment {times} times", d.drawing([turns(times)])
+    # Where the two odd nodes are taken for even ones, the walk begins at the triangle.
+    yield "degree: a segment 257 times, and a triangle at its end", d.drawing([turns(257) + [(12, 0), (0, 12), (9, 9)]])
+    yield "degree: a segment 257 times in three lines, closing", d.drawing([turns(101), turns(100)[::-1], turns(56)], flags=1)
+    # Each link gives its segment the chain .., hub, (4, 3), .., and joins the two once more: three edges more at the hub.
+    hub, links = (3, 4), [(0, 0, (3, 4), 0, 0, (4, 3))] * 85
+    for tail, count in (([], 255), ([hub], 256), ([hub, (7, 7)], 257)):
+        yield f"degree: 85 links that split a segment twice, {count} edges at a node", d.drawing([[(0, 0), (9, 1), *tail]], links)
+    # 128 rays, and as many copies: 256 edges at the node where the walk begins, or where it does not.
+    tips = [(x, y) for x in range(16) for y in range(0, 16, 2)]
+    rays = [[tip, (5, 5), other] for tip, other in zip(tips[::2], tips[1::2])]
+    for flags in (1, 3):
+        yield f"degree: 128 rays, 256 edges where they meet, flags {flags}", d.drawing(rays, flags=flags)
+    yield "degree: 2,298 edges at a node, the most that we know of", g.busiest(1)
+    spots = [(3, 1), (8, 2), (5, 9), (1, 6), (9, 7), (4, 4), (6, 12)]
+    for count in (63, 64, 65, 127, 128, 129):
+        for is_closed in (False, True):
+            rng = random.Random(f"answers {count} edges")
+            while True:
+                walk = g.wander(rng, spots, count, is_closed)
+                if (walk[0] == walk[-1]) == is_closed:
+                    break
+            lines = g.cut_up(rng, walk, rng.randint(1, 3))
+            yield f"marks: {count} edges, {'closed' if is_closed else 'open'}", d.drawing(lines)
+    yield from staying()
+
+
+def staying():
+    """Nothing goes from a place to itself."""
+    square, place = [(1, 1), (9, 1), (9, 9), (1, 9), (1, 1)], (9, 1)
+    for flags in (0, 1):
+        yield f"staying: a line of one place at a corner of a square, flags {flags}", d.drawing([square, [place] * 3], flags=flags)
+        yield f"staying: a point that follows itself, flags {flags}", d.drawing([[(0, 0), (4, 0), (4, 0), (4, 3)]], flags=flags)
+    yield "staying: each point twice", d.drawing([[p for p in square for _ in range(2)]])
+    yield "staying: a link from a corner to itself", d.drawing([square], [(0, 0, place, 0, 1, place)])
+    yield "staying: three links from a node to itself, named by two lines", d.drawing(
+        [square, [place, (5, 5)]], [(0, 0, place, 1, 0, place), (1, 0, place, 0, 1, place), (1, 0, place, 1, 0, place)])
+    yield "staying: a link bends two segments over one place", d.drawing([square], [(0, 0, (5, 5), 0, 2, (5, 5))])
+    yield "staying: a segment of one place is named, at its place", d.drawing(
+        [[(0, 0), (4, 0), (4, 0), (4, 3)]], [(0, 1, (4, 0), 0, 0, (0, 0))])
+    yield "staying: a segment of one place is split elsewhere and comes back", d.drawing(
+        [[(0, 0), (4, 0), (4, 0), (4, 3)]], [(0, 1, (6, 0), 0, 1, (6, 0))])
+    yield "staying: two dots on one node, flags 4", d.drawing([[(3, 3)], [(3, 3), (8, 8)], [(3, 3)] * 2], flags=g.LINK)
+
+
 # Cases of number 15 that tell no more than another one of the list, or that are long.
 SPARED_OWN = ["no link, flags [0-35-8]", "a link, flags [1-3]", ".* and (256|257) lines", ".* 1,02[45] points", "255 links, flags 0",
               "255 links, the last", "256 links, .*flags 0", "no link and (height|flags)", "two links and height",
@@ -368,7 +418,8 @@ def generated():
     wanted = dict(tiny=5, walks=2, lattice=1, lace=2, comb=1, cube=3, near=3, overlap=2, zero=2, links=4, dots=2, empty=1,
                   pieces=2, optimal=2, damaged=2, made_touching=4, made_dots=3, made_closed=3, made_empty=3, made_lattice=6,
                   made_few=3, made_crossing=3, own_links=3, minus_zero_lines=2, minus_zero_links=3, minus_zero_beside=2, minus_zero_splits=3,
-                  minus_zero_dots=2, minus_zero_closed=2, minus_zero_made=3, minus_zero_refused=3, minus_zero_older=3)
+                  minus_zero_dots=2, minus_zero_closed=2, minus_zero_made=3, minus_zero_refused=3, minus_zero_older=3,
+                  staying=4, staying_made=3, many_edges=3)
     for kind, count in wanted.items():
         rng = random.Random(f"answers {kind}")
         number = 0
@@ -380,7 +431,7 @@ def generated():
 
 
 def main():
-    makers = from_samples, from_limits, by_hand, generated, with_flag_4, from_own_links, with_minus_zeros
+    makers = from_samples, from_limits, by_hand, generated, with_flag_4, from_own_links, with_minus_zeros, with_busy_nodes
     cases = [(name, file, *(lent or [{}])) for make in makers for name, file, *lent in make()]
     lent = [dict(dict(f64=d.PLAN_F64, byte=d.PLAN_BYTES, output=d.PLAN_OUTPUT), **lent) for _, _, lent in cases]
     batch = b"".join(d.batched(file, **sizes) for (_, file, _), sizes in zip(cases, lent))

@@ -74,6 +74,10 @@ RAW_POINT = "(raw(p, 0), raw(p, 8))"
 FIRST_END, SECOND_END = "a: point_at(b, 8),", "b: point_at(b, 24),"
 CLEANED = "if read == 0.0 && !cfg!(as_signed) { 0.0 } else { read }"
 MINUS_ZERO = "[0, 0, 0, 0, 0, 0, 0, 0x80]"
+# Where edges are counted, and where one from a node to itself is passed over. Between two split points of a segment there can't be one.
+COUNTED = "graph.edges(n).count()"
+DRAWN_APART, LAST_APART, LINKED_APART = "na != nb && dist > 1e-12", "n_prev != n_end && dist > 1e-12", "if na != nb {"
+SECOND_KEPT = "            self.as_second[b.0].push(place);\n"
 
 
 def tolerance(by):
@@ -123,11 +127,57 @@ def zero_kept_in_lines(condition):
                       f"b.chunks(16).enumerate().map(|(k, p)| if {condition} {{ {RAW_POINT} }} else {{ point_at(p, 0) }})"))
 
 
+def stops_at(where, most):
+    """A count that rises no further. One that wraps round at 256 keeps its parity, and is seen only where it is asked whether a node has edges."""
+    return where, (COUNTED, f"{COUNTED}.min({most})")
+
+
+def one_sided(where, ends):
+    """Edges counted at their first ends alone, or at their second ends."""
+    return [("petgraph.rs", ("        pub fn find_edge(", f"        pub fn one_sided(&self, n: NodeIndex) -> usize {{\n            self.{ends}[n.0].len()\n        }}\n\n"
+                             "        pub fn find_edge(")), (where, (COUNTED, "graph.one_sided(n)"))]
+
+
+def with_loops(apart, by, counted_once):
+    """Edges from a node to itself are let in at one place of the published text. The stand-in for petgraph gives them twice at their node, petgraph once."""
+    once = [(SECOND_KEPT, "            if a != b {\n    " + SECOND_KEPT + "            }\n")] if counted_once else []
+    return [("petgraph.rs", ("            assert!(a != b);\n", ""), *once), ("fn build_graph(", (apart, by))]
+
+
+def marked(by, more=""):
+    """The mark of edge e is another one's too. `last` is the highest number, the virtual edge's if there is one; `ends` are each edge's nodes."""
+    return "departure.rs", ("    // Each node on the stack", f"""    let last = used.len().wrapping_sub(1);
+    let mut ends = vec![Vec::new(); used.len()];
+    for node in graph.node_indices() {{
+        graph.edges(node).for_each(|e| ends[e.id().index()].push(node));
+    }}
+    let mark = |e: usize| {by};
+    // Each node on the stack"""), (
+        "!used[e.id().index()]", "!used[mark(e.id().index())]"), ("used[edge.id().index()] = true;", f"used[mark(edge.id().index())] = true;{more}")
+
+
+def virtual_marked(condition, by):
+    """The virtual edge's mark is another one's too."""
+    return marked(f"if virtual_edge.is_some() && e == last && {condition} {{ {by} }} else {{ e }}")
+
+
+def marks_short(count):
+    """There are so few marks; behind them every edge is taken for used."""
+    return "departure.rs", ("vec![false; graph.edge_count()];", f"""vec![false; graph.edge_count()];
+    let (all, real) = (used.len(), used.len() - usize::from(virtual_edge.is_some()));
+    used.iter_mut().skip({count}).for_each(|u| *u = true);""")
+
+
+def marked_too(more):
+    """With edge e others are marked or freed. A walk that has no end stops."""
+    return marked("e", f"\n                let e = edge.id().index();\n                {more}\n                assert!(stack.len() + circuit.len() < 9000);")
+
+
 def side(name, by):
     return "fn image_center(", (f"f64::from(dims.{name}) / 2.0", by)
 
 
-# Where each edit is made, one of our files or an item of the published text by its first words, and pairs of old and new
+# One edit, or a list of some. Where each edit is made, one of our files or an item of the published text by its first words, and pairs of old and new
 # text. An old text stands once in the file; in an item every place is changed.
 VERSIONS = {
     "check 1: 65,535 bytes at most": limit("> 65_536", "> 65_535"),
@@ -298,6 +348,46 @@ VERSIONS = {
     "minus zero: the smallest numbers below zero too": (
         "reader.rs", (CLEANED, "if read <= 0.0 && -read < f64::MIN_POSITIVE { 0.0 } else { read }")),
     "minus zero: less than half a step below zero too": ("reader.rs", (CLEANED, "if read <= 0.0 && -read < 1.0 / 2048.0 { 0.0 } else { read }")),
+    **{f"counts: stop at {most} in the walk": stops_at("fn hierholzer(", most) for most in (254, 255, 256, 511, 1023, 2047)},
+    **{f"counts: stop at {most} in repair": stops_at("fn odd_degree_vertices(", most) for most in (254, 255, 256, 511, 1023, 2047)},
+    "counts: stop at 255 everywhere": [stops_at("fn hierholzer(", 255), stops_at("fn odd_degree_vertices(", 255)],
+    "counts: in eight bits with a sign, the walk": ("fn hierholzer(", (f"{COUNTED} % 2 != 0", f"{COUNTED} as i8 % 2 == 1")),
+    "counts: modulo 255 in the walk": ("fn hierholzer(", (COUNTED, f"{COUNTED} % 255")),
+    "counts: modulo 255 in repair": ("fn odd_degree_vertices(", (COUNTED, f"{COUNTED} % 255")),
+    **{f"counts: modulo {most}, a node with {most} edges has none": ("fn hierholzer(", ("graph_ref.edges(n).count() > 0", f"graph_ref.edges(n).count() % {most} > 0"))
+       for most in (256, 512)},
+    **{f"counts: {ends} alone, {place}": one_sided(where, field) for ends, field in (("first ends", "as_first"), ("second ends", "as_second"))
+       for place, where in (("in the walk", "fn hierholzer("), ("in repair", "fn odd_degree_vertices("))},
+    "counts: nodes beside it, not edges": [(where, (COUNTED, "graph.edges(n).map(|e| e.target()).collect::<std::collections::HashSet<_>>().len()"))
+                                           for where in ("fn hierholzer(", "fn odd_degree_vertices(")],
+    **{f"loops: {name} let in, counted {times}": with_loops(apart, by, times == "once") for times in ("twice", "once") for name, apart, by in (
+        ("points that follow themselves", DRAWN_APART, "true"), ("a named segment of one place", LAST_APART, "true"),
+        ("links from a place to itself", LINKED_APART, "{"))},
+    **{f"marks: number modulo {count}": marked(f"e % {count}") for count in (8, 32, 64, 128, 256, 512, 1024, 2048, 4000)},
+    "marks: one for two edges": marked("e / 2"),
+    "marks: one for all edges between two nodes": marked(
+        "(0..=e).find(|&k| ends[k] == ends[e]).unwrap()"),
+    "marks: bit 7 of a byte is bit 6's": marked("if e % 8 == 7 { e - 1 } else { e }"),
+    "marks: bit 31 of a word is bit 30's": marked("if e % 32 == 31 { e - 1 } else { e }"),
+    "marks: bit 63 of a word is bit 62's": marked("if e % 64 == 63 { e - 1 } else { e }"),
+    "marks: the first of a word is the last of the one before": marked("if e % 64 == 0 && e > 0 { e - 1 } else { e }"),
+    "marks: the last of 128 edges is the first": marked("if e == 127 { 0 } else { e }"),
+    "marks: the virtual edge's is the first edge's": virtual_marked("true", "0"),
+    "marks: the virtual edge's is the edge's before it": virtual_marked("true", "e - 1"),
+    **{f"marks: the virtual edge's is the edge's before it, at a multiple of {unit}": virtual_marked(f"e % {unit} == 0", "e - 1") for unit in (8, 64, 128, 1000)},
+    "marks: the virtual edge's is the edge's before it, behind a multiple of 64": virtual_marked("e % 64 == 1", "e - 1"),
+    "marks: the virtual edge's is the edge's before it, before a multiple of 64": virtual_marked("e % 64 == 63", "e - 1"),
+    "marks: a byte for eight edges, no more": marks_short("all / 8 * 8"),
+    "marks: none for the virtual edge": marks_short("real"),
+    "marks: no byte begun for the virtual edge": marks_short("real.div_ceil(8) * 8"),
+    "marks: no word begun for the virtual edge": marks_short("real.div_ceil(64) * 64"),
+    "marks: 4,000 of them": marks_short("4000"),
+    "marks: 2,048 of them": marks_short("2048"),
+    "marks: bit 31 with its sign, which marks the upper half of the word": marked_too(
+        "if e % 64 == 31 { used.iter_mut().take((e | 63) + 1).skip(e).for_each(|u| *u = true); }"),
+    "marks: a new one frees the others of its byte": marked_too("(0..used.len()).filter(|&k| k / 8 == e / 8 && k != e).for_each(|k| used[k] = false);"),
+    "marks: the last edge's frees the first": marked_too("if e == last { used[0] = false; }"),
+    "marks: bit 7 of a byte is not kept": marked_too("used[e] = e % 8 != 7;"),
     "made links: none": ("links.rs", ("    kept\n}", "    kept.clear();\n    kept\n}")),
     "made links: one fewer, the longest": ("links.rs", ("    kept\n}", "    kept.pop();\n    kept\n}")),
     "made links: one fewer, the shortest": ("links.rs", ("    kept\n}", "    kept.drain(..1.min(kept.len()));\n    kept\n}")),
@@ -354,7 +444,7 @@ VERSIONS = {
 
 
 def edited(folder, where, pairs):
-    """The file that an edit changes, and its text with the edit made."""
+    """Makes an edit in the texts of this folder."""
     file = where if where.endswith(".rs") else "published.rs"
     text = (folder / file).read_text()
     start, end = 0, len(text)
@@ -366,7 +456,7 @@ def edited(folder, where, pairs):
         if part.count(old) == 0 or file != "published.rs" and part.count(old) > 1:
             sys.exit(f"{where}: this text stands there {part.count(old)} times:\n{old}")
         part = part.replace(old, new)
-    return file, text[:start] + part + text[end:]
+    (folder / file).write_text(text[:start] + part + text[end:])
 
 
 def planned(program, batch):
@@ -398,7 +488,7 @@ def main():
 
     missed = tried = 0
     version = args.out / "version"
-    for name, (where, *pairs) in VERSIONS.items():
+    for name, edits in VERSIONS.items():
         if args.only not in name:
             continue
         tried += 1
@@ -406,8 +496,8 @@ def main():
         version.mkdir()
         for source in args.out.glob("*.rs"):
             shutil.copy(source, version)
-        file, text = edited(args.out, where, pairs)
-        (version / file).write_text(text)
+        for where, *pairs in edits if isinstance(edits, list) else [edits]:
+            edited(version, where, pairs)
         subprocess.run(["rustc", "-O", "--edition", "2024", "-A", "warnings", "-o", version / "oracle", version / "main.rs"],
                        check=True)
         got = planned(version / "oracle", batch)

@@ -14,7 +14,7 @@ use Rattle.drawing_spec.specs.OnGrid.{OnGrid, AtEnds}
 use Rattle.drawing_spec.specs.Accepted.{Counts}
 use Rattle.graph_spec.specs.Graph.{Edge, buildGraph}
 use Rattle.graph_spec.specs.Weights.{Searchable}
-use Rattle.graph_spec.proofs.Built.{built-inside, built-on}
+use Rattle.graph_spec.proofs.Built.{built-inside, built-apart, built-on}
 use Rattle.graph_counts.specs.Few.{Few}
 use Rattle.graph_counts.proofs.Nodes.{counted-few}
 use Rattle.graph_counts.proofs.Lengths.{drawn-searchable}
@@ -68,7 +68,7 @@ module _ (d : Drawing) (c : Counts d) (lines : All (All OnGrid) (d .lines)) (lin
     edges-held : EdgesHeld (length ns) (length es) a
     unfolding ns es
     edges-held = record {
-      edges = lists-linked (length ns) es a few-edges (built-inside d) is (few .nodes);
+      edges = lists-linked (length ns) es a few-edges (built-inside d) (built-apart d) is (few .nodes);
       room = omega (arith, few .edges);
       searchable = subst (Searchable (length ns)) (sym edges-here) (drawn-searchable d lines links (omega (arith, few .nodes)));
     }

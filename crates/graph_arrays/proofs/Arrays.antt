@@ -9,7 +9,9 @@ use lib.Seq.{getD-take}
 use lib.Ieee.{Float, nan}
 use Rattle.limits.specs.Limits.{mostNodes, edgeRoom}
 use Rattle.graph_spec.specs.Graph.{Edge, edge, edgesAt}
-use Rattle.graph_spec.specs.Ways.{Inside}
+use Rattle.graph_spec.specs.Ways.{Inside, Apart}
+use Rattle.graph_spec.specs.Odd.{degree}
+use Rattle.graph_spec.proofs.Odd.{apart-degree}
 use Rattle.graph_spec.proofs.EdgesAt.{edgeAt, edgeAt-in}
 use Rattle.graph_adjacency.specs.Lists.{Adjacency, push, lists, firstArc}
 use Rattle.graph_adjacency.specs.Follow.{Ends, Follows}
@@ -35,6 +37,16 @@ module _ (n m : ℕ) (a : Adjacency) (L : EdgesLinked n m a) where
       let long = edges-count m a in
       subst (λ (e : Edge). (e .a < n) × (e .b < n)) (edge-at m a j h) (L .inside (edgeAt (edgesIn m a) j) (edgeAt-in (edgesIn m a) j (omega (arith, long))))
 
+  -- and two of them
+  pub ends-apart : (j : ℕ) → j < m → getD (a .ends) j 0 ≡ getD (a .ends) (j + edgeRoom) 0 → ⊥
+  ends-apart j h =
+      let long = edges-count m a in
+      subst (λ (e : Edge). e .a ≡ e .b → ⊥) (edge-at m a j h) (L .apart (edgeAt (edgesIn m a) j) (edgeAt-in (edgesIn m a) j (omega (arith, long))))
+
+  -- so no node has more than 4,001 edges, the virtual one among them
+  pub linked-degree : (v : ℕ) → degree (edgesIn m a) v ≤ edgeRoom
+  linked-degree v = omega (arith, apart-degree (edgesIn m a) (L .apart) v, edges-count m a, L .few-edges)
+
   pub ends-of : Ends (edgesIn m a)
   ends-of = inside-ends n (edgesIn m a) (L .few-nodes) (L .inside)
 
@@ -47,13 +59,14 @@ module _ (n m : ℕ) (a : Adjacency) (L : EdgesLinked n m a) where
 
 -- ---- filling
 
-module _ (n : ℕ) (es : List Edge) (a : Adjacency) (few : length es ≤ edgeRoom) (inside : Inside n es) (is : a ≡ lists es) (room : n ≤ mostNodes) where
+module _ (n : ℕ) (es : List Edge) (a : Adjacency) (few : length es ≤ edgeRoom) (inside : Inside n es) (apart : Apart es) (is : a ≡ lists es) (room : n ≤ mostNodes) where
   pub lists-linked : EdgesLinked n (length es) a
   lists-linked = record {
     few-nodes = room;
     few-edges = few;
     linked = is ∙ ap lists (sym (edges-are es a few is));
     inside = subst (Inside n) (sym (edges-are es a few is)) inside;
+    apart = subst Apart (sym (edges-are es a few is)) apart;
   }
 
 -- one edge more
@@ -78,12 +91,19 @@ module _ (n m u v : ℕ) (w : Float) (a a' : Adjacency) (L : EdgesLinked n m a) 
       last : e ≡ edge u v w → (e .a < n) × (e .b < n)
       last z = subst (λ (x : Edge). (x .a < n) × (x .b < n)) (sym z) (hu, hv)
 
+  es-apart : (u ≡ v → ⊥) → Apart es
+  unfolding es
+  es-apart d e i = elim (in-append e (edgesIn m a) (edge u v w ∷ []) i) [ inl k ↦ L .apart e k | inr k ↦ elim k [ inl z ↦ last z | inr z ↦ absurd z ] ]
+    where
+      last : e ≡ edge u v w → e .a ≡ e .b → ⊥
+      last z = subst (λ (x : Edge). x .a ≡ x .b → ⊥) (sym z) d
+
   pub pushed-edges : edgesIn (suc m) a' ≡ edgesIn m a ++ (edge u v w ∷ [])
   unfolding es
   pushed-edges = ap (λ (k : ℕ). edgesIn k a') (sym es-count) ∙ edges-are es a' (omega (arith, es-count)) pushed-lists
 
-  pub pushed-linked : EdgesLinked n (suc m) a'
-  pushed-linked = subst (λ (k : ℕ). EdgesLinked n k a') es-count (lists-linked n es a' (omega (arith, es-count)) es-inside pushed-lists (L .few-nodes))
+  pub pushed-linked : (u ≡ v → ⊥) → EdgesLinked n (suc m) a'
+  pushed-linked d = subst (λ (k : ℕ). EdgesLinked n k a') es-count (lists-linked n es a' (omega (arith, es-count)) es-inside (es-apart d) pushed-lists (L .few-nodes))
 
 -- a list of nodes at the front of an array
 module _ (vs array : List ℕ) (count : ℕ) (F : Front vs array count) where

@@ -10,7 +10,7 @@ use Rattle.limits.specs.Limits.{mostNodes, mostEdges, edgeRoom}
 use Rattle.grid.specs.Grid.{origin}
 use Rattle.drawing_spec.specs.Drawing.{Point}
 use Rattle.graph_spec.specs.Graph.{Edge, edge, Graph}
-use Rattle.graph_spec.specs.Ways.{Inside}
+use Rattle.graph_spec.specs.Ways.{Inside, Apart}
 use Rattle.graph_spec.specs.Weights.{Searchable}
 use Rattle.graph_adjacency.specs.Lists.{Adjacency, lists}
 use Rattle.lists.specs.Tabulate.{tabulate}
@@ -32,12 +32,13 @@ edgesIn m a = tabulate (edgeIn a) m 0
 abbrev pub graphIn : ℕ → ℕ → List ℕ → List ℕ → Adjacency → Graph
 graphIn n m xs ys a = record { nodes = nodesIn n xs ys; edges = edgesIn m a }
 
--- The arrays have m edges between n nodes, and beside them the list of each node's edges.
+-- The arrays have m edges between n nodes, each with two different ends, and beside them the list of each node's edges.
 pub record EdgesLinked (n m : ℕ) (a : Adjacency) : Type 0 where
   pub few-nodes : n ≤ mostNodes
   pub few-edges : m ≤ edgeRoom
   pub linked : a ≡ lists (edgesIn m a)
   pub inside : Inside n (edgesIn m a)
+  pub apart : Apart (edgesIn m a)
 
 -- They are the edges of a drawing, or of one under repair: each weighs what a length on the grid can be, and the virtual edge has room.
 pub record EdgesHeld (n m : ℕ) (a : Adjacency) : Type 0 where

@@ -1,18 +1,20 @@
 -- Degrees by one pass over the edges.
 use mathlib.Core.Path.{_≡_}
 use mathlib.Core.List.{List}
-use Prim.Native.Nat.{ℕ, _+_, _*_, _≤_, _<_}
+use Prim.Native.Nat.{ℕ, _+_, _<_}
 use lib.ListN.{getD, set}
 use Rattle.limits.specs.Limits.{mostNodes, edgeRoom}
 use Rattle.graph_spec.specs.Graph.{Edge}
 use Rattle.graph_spec.specs.Odd.{degree}
 
--- the edge i has nodes as its ends, and no degree is near the largest number
+-- the edge i has two nodes as its ends, and neither's count has come to 4,001 yet
 pub record Countable (i : ℕ) (ends ds : List ℕ) : Type 0 where
   pub room : i < edgeRoom
   pub first : getD ends i 0 < mostNodes
   pub second : getD ends (i + edgeRoom) 0 < mostNodes
-  pub small : (v : ℕ) → getD ds v 0 ≤ 2 * edgeRoom
+  pub apart : getD ends i 0 ≡ getD ends (i + edgeRoom) 0 → ⊥
+  pub first-below : getD ds (getD ends i 0) 0 < edgeRoom
+  pub second-below : getD ds (getD ends (i + edgeRoom) 0) 0 < edgeRoom
 
 -- one more at v
 abbrev pub bump : List ℕ → ℕ → List ℕ

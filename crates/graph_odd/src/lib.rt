@@ -11,8 +11,11 @@ use limits::ARC_ROOM;
 use limits::EDGE_ROOM;
 use limits::MOST_NODES;
 
-// One more at both ends of the edge i.
-fn count_edge(ends: &[u16; ARC_ROOM], degrees: &mut [u16; MOST_NODES], i: usize)
+// A node's edges, counted: 4,001 at most, the repaired ones and the virtual one, of which each has two different ends.
+type Degree = u16;
+
+// One more at both ends of the edge i, which are two nodes.
+fn count_edge(ends: &[u16; ARC_ROOM], degrees: &mut [Degree; MOST_NODES], i: usize)
     requires { ⌜ Countable i (now ends) (now degrees) ⌝ }
     ensures { λ _. ⌜ now (degrees .exit) ≡ bumped (now (degrees .entry)) (getD (now (ends .entry)) i 0) (getD (now (ends .entry)) (i + edgeRoom) 0) ⌝ }
 {
@@ -30,7 +33,7 @@ fn count_degrees(
     heads: &[u16; 2 * MOST_NODES],
     n: usize,
     m: usize,
-    degrees: &mut [u16; MOST_NODES],
+    degrees: &mut [Degree; MOST_NODES],
 )
     requires edges { ⌜ EdgesLinked n m (adjacency (now ends) (now weights) (now next) (now heads)) ⌝ }
     requires none { ⌜ now degrees ≡ replicate mostNodes 0 ⌝ }
@@ -58,7 +61,7 @@ pub fn odd_nodes(
     ensures { λ r. ⌜ Front (oddNodes n (edgesIn m (adjacency (now (ends .entry)) (now (weights .entry)) (now (next .entry)) (now (heads .entry))))) (now (odd .exit)) r ⌝ }
 {
     *odd = [0; MOST_NODES];
-    let mut degrees = [0u16; MOST_NODES];
+    let mut degrees: [Degree; MOST_NODES] = [0; MOST_NODES];
     count_degrees(ends, weights, next, heads, n, m, &mut degrees);
     let mut count: usize = 0;
     let mut v: usize = 0;

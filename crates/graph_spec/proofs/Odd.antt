@@ -7,13 +7,14 @@ use Prim.Native.Nat.{ℕ, zero, suc, _+_, _%_, _≤_, _<_}
 use native.Mathlib.Nat.{lt-of-not-le}
 use native.Mathlib.Decide.{ℕ-discrete}
 use native.Mathlib.Omega.{arith}
+use lib.ListN.{length}
 use borrow.Author.Tests.{eqb-true, eq-eqb}
 use Rattle.lists.proofs.Members.{either}
 use Rattle.graph_spec.specs.Graph.{Edge}
 use Rattle.graph_spec.specs.Odd.{degree, isOdd, oddFrom, oddNodes}
-use Rattle.graph_spec.specs.Ways.{Inside}
+use Rattle.graph_spec.specs.Ways.{Inside, Apart}
 use Rattle.lists.specs.Members.{In}
-use Rattle.graph_spec.proofs.Sums.{hit-other}
+use Rattle.graph_spec.proofs.Sums.{hit-other, hit-both}
 
 -- v is one of the n nodes from u on, and odd
 pub record OddFrom (es : List Edge) (n u v : ℕ) : Type 0 where
@@ -74,6 +75,12 @@ oddFrom-ascends es (suc n) k u us h v i = go (isOdd (degree es k)) (λ e. oddFro
 
 pub oddNodes-ascends : (n : ℕ) (es : List Edge) (u : ℕ) (us : List ℕ) → oddNodes n es ≡ u ∷ us → (v : ℕ) → In v us → u < v
 oddNodes-ascends n es = oddFrom-ascends es n 0
+
+-- where no edge leads from a node to itself, no node has more edges than there are
+pub apart-degree : (es : List Edge) → Apart es → (v : ℕ) → degree es v ≤ length es
+unfolding degree
+apart-degree [] h v = omega arith
+apart-degree (e ∷ es) h v = omega (arith, hit-both (e .a) (e .b) v (h e (inl refl)), apart-degree es (λ x i. h x (inr i)) v)
 
 -- ---- all nodes, where every edge lies among the first n
 

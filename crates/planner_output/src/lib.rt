@@ -39,7 +39,7 @@ pub fn emit_line(
     ensures { λ r. ⌜ r ≡ emittedOf (now (output .entry)) (lineOf (settingsOf settings) (nodesIn n (now (xs .entry)) (now (ys .entry))) (edgesIn m (adjacency (now (ends .entry)) (now (weights .entry)) (now (next .entry)) (now (heads .entry))))) ⌝ }
     ensures { λ _. ⌜ now (output .exit) ≡ outputWith (now (output .entry)) (lineOf (settingsOf settings) (nodesIn n (now (xs .entry)) (now (ys .entry))) (edgesIn m (adjacency (now (ends .entry)) (now (weights .entry)) (now (next .entry)) (now (heads .entry))))) ⌝ }
 {
-    // 8,004 bytes; with the arrays of the walk below it 34,149 in all.
+    // 8,004 bytes; with the arrays of the walk below it 30,652 in all.
     let mut line = [0u16; LINE_ROOM];
     let count = walk::line_of(
         xs,

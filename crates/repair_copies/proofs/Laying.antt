@@ -95,7 +95,7 @@ module _ (n : ℕ) (path : List ℕ) (long : length path ≡ mostNodes) (first m
         )
 
     -- a copy more
-    module _ (more : i + 1 < mostNodes) (u v : ℕ) (isU : u ≡ getD path i 0) (isV : v ≡ getD path (i + 1) 0) (hu : u < n) (hv : v < n)
+    module _ (more : i + 1 < mostNodes) (u v : ℕ) (isU : u ≡ getD path i 0) (isV : v ≡ getD path (i + 1) 0) (hu : u < n) (hv : v < n) (apart : u ≡ v → ⊥)
         (w : Float) (is : w ≡ weightTo v (edgesAt (edgesIn e a) u)) (a' : Adjacency) (pushed : a' ≡ push e u v w a) where
       few : e < edgeRoom
       few = omega (arith, Y .count)
@@ -112,7 +112,7 @@ module _ (n : ℕ) (path : List ℕ) (long : length path ≡ mostNodes) (first m
         from = omega (arith, Y .from);
         most = more;
         count = omega (arith, Y .count);
-        linked = subst (λ (k : ℕ). EdgesLinked n k a') (sym (add-one e)) (pushed-linked n e u v w a a' (Y .linked) few hu hv pushed);
+        linked = subst (λ (k : ℕ). EdgesLinked n k a') (sym (add-one e)) (pushed-linked n e u v w a a' (Y .linked) few hu hv pushed apart);
         rest =
             let l = laidOf (edgesIn e a) total in
             let place : suc i < length path = omega arith in

@@ -36,6 +36,7 @@ pub fn lay_path(
     sum: f64,
 ) -> f64
     requires { ⌜ (first < mostNodes) × (m + copiesFrom first ≤ edgeRoom) × (length (now path) ≡ mostNodes) × ((j : ℕ) → first ≤ j → j < mostNodes → getD (now path) j 0 < n) ⌝ }
+    requires apart { ⌜ ((j : ℕ) → first ≤ j → j + 1 < mostNodes → getD (now path) j 0 ≡ getD (now path) (j + 1) 0 → ⊥) ⌝ }
     requires { ⌜ EdgesLinked n m (adjacency (now ends) (now weights) (now next) (now heads)) ⌝ }
     ensures laid { λ r. ⌜ laidOf (edgesIn (m + copiesFrom first) (adjacency (now (ends .exit)) (now (weights .exit)) (now (next .exit)) (now (heads .exit)))) r ≡ layPath (drop first (now (path .entry))) (laidOf (edgesIn m (adjacency (now (ends .entry)) (now (weights .entry)) (now (next .entry)) (now (heads .entry)))) sum) ⌝ }
     ensures linked { λ _. ⌜ EdgesLinked n (m + copiesFrom first) (adjacency (now (ends .exit)) (now (weights .exit)) (now (next .exit)) (now (heads .exit))) ⌝ }

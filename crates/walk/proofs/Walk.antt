@@ -1,5 +1,6 @@
 -- The walk from the start that lies best, in flat arrays, is document 01's.
 use mathlib.Core.Path.{_≡_, refl, sym, ap, _∙_}
+use mathlib.Core.Logic.{inl}
 use mathlib.Core.List.{List, [], _∷_, map}
 use Prim.Native.Nat.{ℕ, _≤_, _<_}
 use native.Mathlib.Nat.{zero-add}
@@ -11,7 +12,7 @@ use Rattle.lists.proofs.Members.{in-all}
 use Rattle.graph_spec.specs.Graph.{Edge, pointAt}
 use Rattle.graph_spec.specs.Odd.{oddNodes}
 use Rattle.graph_spec.specs.Ways.{Inside}
-use Rattle.graph_spec.proofs.Odd.{oddNodes-member}
+use Rattle.graph_spec.proofs.Odd.{oddNodes-member, oddNodes-ascends}
 use Rattle.graph_spec.proofs.Handshake.{handshake}
 use Rattle.walk_spec.specs.Start.{best, withEdges}
 use Rattle.walk_spec.specs.Line.{euler, hierholzer, lineOf}
@@ -54,6 +55,15 @@ none-listed n line = record { fits = omega arith; long = omega arith; nodes-in =
 module _ (n : ℕ) (es : List Edge) (few : n ≤ mostNodes) (odd : List ℕ) (r : ℕ) (f : Front (oddNodes n es) odd r) where
   pub odd-nodes : NodeList n mostNodes odd r
   odd-nodes = front-list (oddNodes n es) odd r f n mostNodes (omega (arith, odd-few es n)) (in-all _ (oddNodes n es) (λ v i. oddNodes-member n es v .0 i .0))
+
+  -- the first of them is below the second
+  pub odd-ascend : 1 < r → getD odd 0 0 < getD odd 1 0
+  odd-ascend two = rw (front-at (oddNodes n es) odd r f 0 (omega arith), front-at (oddNodes n es) odd r f 1 two) (go (oddNodes n es) refl)
+    where
+      go : (os : List ℕ) → oddNodes n es ≡ os → getD os 0 0 < getD os 1 0
+      go [] e = absurd (omega (arith, two, f .counts, ap length e))
+      go (u ∷ []) e = absurd (omega (arith, two, f .counts, ap length e))
+      go (u ∷ v ∷ us) e = oddNodes-ascends n es u (v ∷ us) e v (inl refl)
 
   -- one alone is never odd
   pub odd-two : Inside n es → (r ≡ 0 → ⊥) → 1 < r

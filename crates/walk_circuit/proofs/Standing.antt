@@ -15,13 +15,13 @@ use Rattle.lists.proofs.Elements.{getD-inside}
 use Rattle.graph_spec.specs.Graph.{Edge, edgesAt}
 use Rattle.graph_spec.specs.Ways.{Joins, Inside}
 use Rattle.graph_spec.proofs.EdgesAt.{edgeAt, edgeAt-in}
-use Rattle.graph_adjacency.specs.Lists.{Adjacency, firstArc, edgeNumber}
+use Rattle.graph_adjacency.specs.Lists.{Adjacency, firstArc, nextArc, edgeNumber}
 use Rattle.graph_adjacency.specs.Follow.{Follows}
 use Rattle.walk_spec.specs.Walk.{By, Entry, Next, spent, along, next, walk, circuit}
-use Rattle.walk_spec.proofs.Free.{freeSum, freeSum-use, freeSum-all}
+use Rattle.walk_spec.proofs.Free.{freeSum, used-set, freeSum-use, freeSum-all}
 use Rattle.walk_spec.proofs.Circuit.{count-edges}
 use Rattle.walk_spec.proofs.Next.{Leads, Fits, next-fits}
-use Rattle.walk_circuit.proofs.Cursor.{Cursor, ArcThere, stays-set, cursor-first, cursor-later, cursor-none, cursor-free, cursor-arc}
+use Rattle.walk_circuit.proofs.Cursor.{Cursor, ArcThere, stays-set, cursor-first, cursor-later, cursor-pass, cursor-none, cursor-free, cursor-arc}
 use Rattle.walk_circuit.specs.Entries.{byOf, entryOf, entriesOf, entriesFrom}
 use Rattle.walk_circuit.proofs.Entries.{by-edge, stackOf, stack-other, entries-other, stack-push, stack-top, entries-put}
 use Rattle.walk_circuit.specs.FirstArcs.{FirstArcs}
@@ -126,10 +126,10 @@ module _ (n : ℕ) (es : List Edge) (g : Adjacency) (s : ℕ) (room : n ≤ most
     | no d ↦ rw (getD-set-other cursors u v k 0 d) (are v h)
   ]
 
-  -- along the free arc k
+  -- along the free arc k; the cursor goes on to the arc after it
   pub push-stands : (fuel k : ℕ) (t : Stand) → Standing n es g s (fuel + 1) t → 0 < k → Cursor g (edgesAt es (t .node)) (marksOf es (t .used)) (t .node) k
       → getD (t .used) (edgeNumber k) false ≡ false
-      → Standing n es g s fuel (stand (set (t .used) (edgeNumber k) true) (set (t .cursors) (t .node) k) (set (t .nodes) (t .depth) (t .node)) (set (t .bys) (t .depth) (t .by)) (t .depth + 1)
+      → Standing n es g s fuel (stand (set (t .used) (edgeNumber k) true) (set (t .cursors) (t .node) (nextArc (g .next) (g .heads) (t .node) k)) (set (t .nodes) (t .depth) (t .node)) (set (t .bys) (t .depth) (t .by)) (t .depth + 1)
       (getD (g .ends) (k - 1) 0) (edgeNumber k + 1) (t .place))
   push-stands fuel k t w lk c free =
       let i = edgeNumber k in
@@ -141,6 +141,7 @@ module _ (n : ℕ) (es : List Edge) (g : Adjacency) (s : ℕ) (room : n ≤ most
       let leads : Leads es marks (t .node) i v = subst (λ (n : Next). Fits es marks (t .node) n) is (next-fits es marks (t .node)) in
       let marks-now : marksOf es (set (t .used) i true) ≡ set marks i true = take-set-lt (length es) (t .used) i true (there .isEdge) in
       let count : unused es marks ≡ 1 + unused es (set marks i true) = freeSum-use (λ (j : ℕ) (e : Edge). 1) 0 es marks i (there .isEdge) mark in
+      let past = cursor-pass g (edgesAt es (t .node)) (set marks i true) (t .node) k lk (used-set marks i) (cursor-later g (edgesAt es (t .node)) marks (t .node) (set marks i true) k (stays-set marks i) c) in
       let d-in : t .depth < t .place = omega (arith, w .each, count, few, w .place-in) in
       let d-nodes : t .depth < length (t .nodes) = omega (arith, w .nodes-long, w .place-in) in
       let d-bys : t .depth < length (t .bys) = omega (arith, w .bys-long, w .place-in) in
@@ -162,8 +163,8 @@ module _ (n : ℕ) (es : List Edge) (g : Adjacency) (s : ℕ) (room : n ≤ most
         cursors-long = simp length-set (w .cursors-long);
         nodes-long = simp length-set (w .nodes-long);
         bys-long = simp length-set (w .bys-long);
-        cursors-are = λ u h. rw marks-now (cursor-later g (edgesAt es u) marks u (set marks i true) _ (stays-set marks i)
-            (moved-are marks (t .cursors) (t .node) k (w .node-in) (w .cursors-long) c (w .cursors-are) u h));
+        cursors-are = λ u h. rw marks-now (moved-are (set marks i true) (t .cursors) (t .node) _ (w .node-in) (w .cursors-long) past
+            (λ v l. cursor-later g (edgesAt es v) marks v (set marks i true) _ (stays-set marks i) (w .cursors-are v l)) u h);
       }
     where
       below : (j : ℕ) → j < t .depth + 1 → getD (set (t .nodes) (t .depth) (t .node)) j 0 < n

@@ -11,6 +11,8 @@ use Rattle.graph_adjacency.specs.Lists.{Adjacency, firstArc, nextArc, edgeNumbe
 use Rattle.graph_arrays.specs.Arrays.{EdgesLinked, edgesIn}
 use Rattle.graph_arrays.proofs.Arrays.{edges-count, follows-edges}
 use Rattle.walk_spec.specs.Walk.{circuit}
+use Rattle.walk_marks.specs.Marks.{words, marksIn}
+use Rattle.walk_marks.proofs.Marks.{marks-none}
 use Rattle.walk_circuit.proofs.Cursor.{Cursor, cursor-first, cursor-pass, cursor-arc, cursor-within}
 use Rattle.walk_circuit.specs.Entries.{EntriesIn, entryOf, entriesFrom}
 use Rattle.walk_circuit.proofs.Entries.{entries-put}
@@ -74,9 +76,9 @@ module _ (n m : ℕ) (a : Adjacency) (L : EdgesLinked n m a) where
         rw e' (cursor-pass a (edgesAt es (t .node)) (marksOf es (t .used)) (t .node) k l (sym mark ∙ rw (← e) u) c)
 
     -- along a free one
-    pub push-walks : (k i v : ℕ) (t : Stand) → 0 < k → i ≡ edgeNumber k → v ≡ getD (a .ends) (k - 1) 0 → Walks n m a s (fuel + 1) t → Looks n m a k t → getD (t .used) i false ≡ false
-        → Walks n m a s fuel (stand (set (t .used) i true) (set (t .cursors) (t .node) k) (set (t .nodes) (t .depth) (t .node)) (set (t .bys) (t .depth) (t .by)) (t .depth + 1) v (i + 1) (t .place))
-    push-walks k i v t l e e' w c u = rw (e, e') (push-stands n (edgesIn m a) a s (L .few-nodes) few (L .inside) fuel k t w l c (rw (← e) u))
+    pub push-walks : (k i k' v : ℕ) (t : Stand) → 0 < k → i ≡ edgeNumber k → k' ≡ nextArc (a .next) (a .heads) (t .node) k → v ≡ getD (a .ends) (k - 1) 0 → Walks n m a s (fuel + 1) t → Looks n m a k t → getD (t .used) i false ≡ false
+        → Walks n m a s fuel (stand (set (t .used) i true) (set (t .cursors) (t .node) k') (set (t .nodes) (t .depth) (t .node)) (set (t .bys) (t .depth) (t .by)) (t .depth + 1) v (i + 1) (t .place))
+    push-walks k i k' v t l e e' e'' w c u = rw (e, e', e'') (push-stands n (edgesIn m a) a s (L .few-nodes) few (L .inside) fuel k t w l c (rw (← e) u))
 
     -- off the stack
     pub pop-walks : (k v : ℕ) (t : Stand) → k ≤ 0 → (t .depth ≡ 0 → ⊥) → v ≡ getD (t .nodes) (t .depth - 1) 0 → Walks n m a s (fuel + 1) t → Looks n m a k t
@@ -96,11 +98,11 @@ module _ (n m : ℕ) (a : Adjacency) (L : EdgesLinked n m a) where
     out-walks t z w = out-by n (edgesIn m a) a s (L .few-nodes) few (L .inside) fuel t w z
 
   pub start-walks : (s : ℕ) (arcs : List ℕ) → FirstArcs (a .heads) n arcs → s < n
-      → Walks n m a s (2 * m + 1) (stand (replicate edgeRoom false) arcs (replicate lineRoom 0) (replicate lineRoom 0) 0 s 0 lineRoom)
+      → Walks n m a s (2 * m + 1) (stand (marksIn (replicate words 0)) arcs (replicate lineRoom 0) (replicate lineRoom 0) 0 s 0 lineRoom)
   start-walks s arcs f ls =
-      subst (λ (k : ℕ). Standing n (edgesIn m a) a s (2 * k + 1) (stand (replicate edgeRoom false) arcs (replicate lineRoom 0) (replicate lineRoom 0) 0 s 0 lineRoom)) (edges-count m a)
+      rw marks-none (subst (λ (k : ℕ). Standing n (edgesIn m a) a s (2 * k + 1) (stand (replicate edgeRoom false) arcs (replicate lineRoom 0) (replicate lineRoom 0) 0 s 0 lineRoom)) (edges-count m a)
       (start-stands n (edgesIn m a) a s arcs (replicate lineRoom 0) (replicate lineRoom 0) few (λ v h. follows-edges n m a L v (omega (arith, L .few-nodes))) f ls
-      (length-replicate {A = ℕ} lineRoom 0) (length-replicate {A = ℕ} lineRoom 0))
+      (length-replicate {A = ℕ} lineRoom 0) (length-replicate {A = ℕ} lineRoom 0)))
 
 -- the last entry goes in front
 module _ (n : ℕ) (nodes bys : List ℕ) (depth node by place : ℕ) (w : Within n nodes bys depth node place) where

@@ -11,6 +11,7 @@ use limits::ARC_ROOM;
 use limits::EDGE_ROOM;
 use limits::LINE_ROOM;
 use limits::MOST_NODES;
+use walk_marks::WORDS;
 
 // An arc, as the walk keeps it for each node.
 type Cursor = u16;
@@ -59,8 +60,8 @@ pub fn circuit(
     // Behind a reference an array's length is not known until it is written whole.
     *nodes = [0; LINE_ROOM];
     *bys = [0; LINE_ROOM];
-    // Beside these two, 8,004 bytes each, the walk's state is 4,001 and 3,068 bytes.
-    let mut used = [false; EDGE_ROOM];
+    // Beside these two, 8,004 bytes each, the walk's state is 504 and 3,068 bytes.
+    let mut used = [0; WORDS];
     let mut cursors = first_arcs(ends, weights, next, heads, n, m);
     let mut depth: usize = 0;
     let mut node = s;
@@ -73,9 +74,10 @@ pub fn circuit(
         let mut k = widen::wide(cursors[node]);
         while 0 < k {
             let i = graph_adjacency::edge_number(k);
-            if !used[i] {
-                used[i] = true;
-                cursors[node] = k as Cursor;
+            let after = graph_adjacency::next_arc(next, heads, node, k);
+            if !walk_marks::is_used(&used, i) {
+                walk_marks::mark_used(&mut used, i);
+                cursors[node] = after as Cursor;
                 nodes[depth] = node as u16;
                 bys[depth] = by;
                 depth += 1;
@@ -83,7 +85,7 @@ pub fn circuit(
                 by = (i + 1) as u16;
                 continue 'walk;
             }
-            k = graph_adjacency::next_arc(next, heads, node, k);
+            k = after;
         }
         if depth == 0 {
             break 'walk;

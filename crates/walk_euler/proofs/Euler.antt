@@ -28,8 +28,8 @@ closed-is m a s nodes bys first w = sym (entries-nodes nodes bys (lineRoom - fir
 
 -- with the virtual edge
 module _ (n m u v : ℕ) (a a' : Adjacency) (L : EdgesLinked n m a) (room : m < edgeRoom) (hu : u < n) (hv : v < n) (is : a' ≡ push m u v zeroLength a) where
-  pub virtual-linked : EdgesLinked n (m + 1) a'
-  virtual-linked = rw add-one (pushed-linked n m u v zeroLength a a' L room hu hv is)
+  pub virtual-linked : (u ≡ v → ⊥) → EdgesLinked n (m + 1) a'
+  virtual-linked d = rw add-one (pushed-linked n m u v zeroLength a a' L room hu hv is d)
 
   pub open-is : (s : ℕ) (nodes bys : List ℕ) (first : ℕ) → entriesFrom first nodes bys ≡ circuit (edgesIn (m + 1) a') s → cutLine m first nodes bys ≡ openLine u v s (edgesIn m a)
   open-is s nodes bys first w =

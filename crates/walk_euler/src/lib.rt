@@ -36,7 +36,7 @@ pub fn closed_line(
     walk_cut::whole(&nodes, first, line)
 }
 
-// The line from s between the nodes u and v: the virtual edge from u to v is added, and its step is cut, which is known
+// The line from s between two nodes, u and v: the virtual edge from u to v is added, and its step is cut, which is known
 // by the edge's number, m. It is the definition's answer for any graph, and a line through all edges where u and v alone
 // are odd and all are reached. The answer is how many nodes the line has; what stands behind them is left open. What the
 // arrays of the edges hold afterwards, with the virtual edge, is left open.
@@ -53,6 +53,7 @@ pub fn open_line(
     line: &mut [u16; LINE_ROOM],
 ) -> usize
     requires nodes { ⌜ (u < n) × (v < n) × (s < n) ⌝ }
+    requires apart { ⌜ (u ≡ v → ⊥) ⌝ }
     requires room { ⌜ m < edgeRoom ⌝ }
     requires edges { ⌜ EdgesLinked n m (adjacency (now ends) (now weights) (now next) (now heads)) ⌝ }
     ensures { λ r. ⌜ take r (now (line .exit)) ≡ openLine u v s (edgesIn m (adjacency (now (ends .entry)) (now (weights .entry)) (now (next .entry)) (now (heads .entry)))) ⌝ }

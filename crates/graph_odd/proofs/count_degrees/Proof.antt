@@ -1,4 +1,4 @@
--- `graph_odd::count_degrees` meets its contract. The invariant: what is counted and the degrees by the edges that are left make the degrees by all, and no count is above twice the edges passed. Assumes nothing.
+-- `graph_odd::count_degrees` meets its contract. The invariant: what is counted and the degrees by the edges that are left make the degrees by all; so no count is above a degree, and no degree is above 4,001. Assumes nothing.
 use Prim.Native.Nat.{_-_}
 use Rattle.graph_adjacency.specs.Lists.{adjacency}
 use Rattle.graph_arrays.specs.Arrays.{edgesIn}

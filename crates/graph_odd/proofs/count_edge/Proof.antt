@@ -1,9 +1,9 @@
--- `graph_odd::count_edge` meets its contract: the stores are those of `bumped`. Assumes nothing.
+-- `graph_odd::count_edge` meets its contract: the stores are those of `bumped`, and each of the two counts that rise comes to 4,001 at most. Assumes nothing.
 use mathlib.Core.Path.{ap₂}
 use Prim.Native.Nat.{ℕ}
 use native.Mathlib.Omega.{arith}
 use Rattle.graph_odd.specs.Degrees.{bumped}
-use Rattle.graph_odd.proofs.Degrees.{bump-le}
+use Rattle.graph_odd.proofs.Degrees.{first-rises, second-rises}
 use borrow.Author.Needs.{needs}
 use Rattle.graph_odd.proofs.count_edge.Statement.{statement}
 use Rattle.graph_odd.proofs.count_edge.Tie as tie
@@ -36,7 +36,9 @@ element-copy-out-degrees : tie.Need-element-copy-out-degrees
 element-copy-out-degrees c = search needs
 
 add-degrees : tie.Need-add-degrees
-add-degrees c = omega (arith, c .before .before .before .before .before .pre .small (c .before .before .before .wide .result))
+add-degrees c =
+    let b = c .before .before .before .before .before in
+    omega (arith, first-rises _ _ _ (b .pre) _ _ (c .before .before .before .wide .ensures) (c .before .wide2 .ensures))
 
 element-write-degrees : tie.Need-element-write-degrees
 element-write-degrees c = search needs
@@ -48,7 +50,9 @@ element-copy-out-degrees-2 : tie.Need-element-copy-out-degrees-2
 element-copy-out-degrees-2 c = search needs
 
 add-degrees-2 : tie.Need-add-degrees-2
-add-degrees-2 c = omega (arith, bump-le (c .before .before .before .before .before .before .args .degrees .now) (c .before .before .before .before .wide .result) (c .before .before .wide2 .result), c .before .before .before .before .before .before .pre .small (c .before .before .before .before .wide .result), c .before .before .before .before .before .before .pre .small (c .before .before .wide2 .result))
+add-degrees-2 c =
+    let b = c .before .before .before .before .before .before in
+    omega (arith, second-rises _ _ _ (b .pre) _ _ (c .before .before .before .before .wide .ensures) (c .before .before .wide2 .ensures))
 
 element-write-degrees-2 : tie.Need-element-write-degrees-2
 element-write-degrees-2 c = search needs

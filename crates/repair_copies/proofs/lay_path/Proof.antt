@@ -72,8 +72,11 @@ near-inside c = let o = outer c in omega (arith, near-is c, start o .pre .0 .3 (
 far-inside : (c : tie.At-loop Inv-loop μ-loop Inv-step μ-step) → far c < start (outer c) .args .n
 far-inside c = let o = outer c in omega (arith, far-is c, start o .pre .0 .3 (place o + 1) (omega (arith, o .before .step .inv .from)) (o .step-test .taken))
 
+two-nodes : (c : tie.At-loop Inv-loop μ-loop Inv-step μ-step) → near c ≡ far c → ⊥
+two-nodes c e = let o = outer c in start o .pre .1 .0 (place o) (o .before .step .inv .from) (o .step-test .taken) (sym (near-is c) ∙ e ∙ far-is c)
+
 few-nodes : (c : tie.At-loop Inv-loop μ-loop Inv-step μ-step) → start (outer c) .args .n ≤ mostNodes
-few-nodes c = start (outer c) .pre .1 .few-nodes
+few-nodes c = start (outer c) .pre .1 .1 .few-nodes
 
 -- what is to be laid in all
 abbrev whole : tie.Start Inv-loop μ-loop Inv-step μ-step → Laid
@@ -103,10 +106,10 @@ more l w is a' pushed =
     let o = outer l in
     let b = start o in
     laying-step (b .args .n) (b .args .path .now) (b .pre .0 .2) (b .args .first) (b .args .m) (b .pre .0 .1) (whole b) (now-in l) (place o) (l .loop .e) (l .loop .total)
-    (still l) (o .step-test .taken) (near l) (far l) (near-is l) (far-is l) (near-inside l) (far-inside l) w is a' pushed
+    (still l) (o .step-test .taken) (near l) (far l) (near-is l) (far-is l) (near-inside l) (far-inside l) (two-nodes l) w is a' pushed
 
 step-holds : tie.Need-step-holds Inv-loop μ-loop Inv-step μ-step
-step-holds c = laying-begin (c .args .n) (c .args .path .now) (c .pre .0 .2) (c .args .first) (c .args .m) (c .pre .0 .1) (entry c) (c .args .sum) (c .pre .0 .0) (c .pre .1)
+step-holds c = laying-begin (c .args .n) (c .args .path .now) (c .pre .0 .2) (c .args .first) (c .args .m) (c .pre .0 .1) (entry c) (c .args .sum) (c .pre .0 .0) (c .pre .1 .1)
 
 add-step : tie.Need-add-step Inv-loop μ-loop Inv-step μ-step
 add-step c = omega (arith, c .step .inv .most)
@@ -136,7 +139,7 @@ first-arc-requires : tie.Need-first-arc-requires Inv-loop μ-loop Inv-step μ-st
 first-arc-requires c κs =
     let w = c .before .before .before in
     let o = w .before .before in
-    omega (arith, w .wide .ensures, start o .pre .0 .3 (place o) (o .before .step .inv .from) (o .before .step .inv .most), start o .pre .1 .few-nodes)
+    omega (arith, w .wide .ensures, start o .pre .0 .3 (place o) (o .before .step .inv .from) (o .before .step .inv .most), start o .pre .1 .1 .few-nodes)
 
 loop-holds : tie.Need-loop-holds Inv-loop μ-loop Inv-step μ-step
 loop-holds c =
@@ -145,7 +148,7 @@ loop-holds c =
     let v = c .before .before .wide2 .result in
     let o = w .before .before in
     let a = now-at (o .before) in
-    let inside : u < mostNodes = omega (arith, w .wide .ensures, start o .pre .0 .3 (place o) (o .before .step .inv .from) (o .before .step .inv .most), start o .pre .1 .few-nodes) in
+    let inside : u < mostNodes = omega (arith, w .wide .ensures, start o .pre .0 .3 (place o) (o .before .step .inv .from) (o .before .step .inv .most), start o .pre .1 .1 .few-nodes) in
     (refl, refl, refl, subst (Seeking a (o .before .step .e) u v) (sym (c .first-arc .ensures)) (from-first (start o .args .n) (o .before .step .e) a (o .before .step .inv .linked) u (weightTo v) inside))
 
 sub-wide : tie.Need-sub-wide Inv-loop μ-loop Inv-step μ-step

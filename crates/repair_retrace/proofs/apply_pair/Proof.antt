@@ -12,7 +12,7 @@ use Rattle.graph_arrays.specs.Arrays.{edgesIn}
 use Rattle.repair_spec.specs.Retrace.{found, shortestPath}
 use Rattle.repair_way_back.specs.declared.Way.{Way}
 use Rattle.repair_way_back.specs.Answer.{wayIn}
-use Rattle.repair_retrace.proofs.Path.{first-inside, nodes-inside}
+use Rattle.repair_retrace.proofs.Path.{first-inside, nodes-inside, neighbours-apart}
 use Rattle.repair_retrace.proofs.Answer.{answers-missing, answers-over, answers-laid}
 use Rattle.repair_retrace.proofs.apply_pair.Statement.{statement}
 use Rattle.repair_retrace.proofs.apply_pair.Tie as tie
@@ -95,7 +95,10 @@ lay-path-requires c κs =
         long f,
         nodes-inside (b .args .n) (edges b) (b .pre .1 .edges .inside) (b .args .from) (b .args .to) (b .pre .0 .0) (nodes f) (long f) (place w) (is-way w),
       ),
-      b .pre .1 .edges,
+      (
+        neighbours-apart (b .args .n) (edges b) (b .pre .1 .edges .inside) (b .args .from) (b .args .to) (b .pre .0 .0) (nodes f) (long f) (place w) (is-way w) (b .pre .1 .edges .apart),
+        b .pre .1 .edges,
+      ),
     )
 
 returns-3 : tie.Need-returns-3

@@ -6,7 +6,7 @@ use Rattle.file_records.specs.Meaning.{settingsOf}
 use Rattle.graph_spec.specs.Graph.{Edge}
 use Rattle.graph_adjacency.specs.Lists.{adjacency}
 use Rattle.graph_arrays.specs.Arrays.{edgesIn}
-use Rattle.walk.proofs.Walk.{walk-none, none-listed, odd-nodes, odd-two, with-nodes, walk-closed, walk-open}
+use Rattle.walk.proofs.Walk.{walk-none, none-listed, odd-nodes, odd-ascend, odd-two, with-nodes, walk-closed, walk-open}
 use borrow.Author.Needs.{needs}
 use Rattle.walk.proofs.hierholzer.Statement.{statement}
 use Rattle.walk.proofs.hierholzer.Tie as tie
@@ -70,7 +70,7 @@ open-line-requires c κs =
     let u = c .before .before .before .before .before .before .before .before .wide .ensures in
     let v = c .before .before .before .before .before .before .before .wide2 .ensures in
     let s = c .before .before .before .before .before .best2 .ensures .1 in
-    ((omega arith, omega arith, omega arith), (omega (arith, b .pre .1 .1 .room), b .pre .1 .1 .edges))
+    ((omega arith, omega arith, omega arith), (λ e. omega (arith, odd-ascend _ (edges b) few _ _ f two), (omega (arith, b .pre .1 .1 .room), b .pre .1 .1 .edges)))
 
 returns-3 : tie.Need-returns-3
 returns-3 c =

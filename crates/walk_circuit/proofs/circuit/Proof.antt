@@ -1,12 +1,15 @@
 -- `walk_circuit::circuit` meets its contract. At the outer loop's head, what is left of the walk from here gives the circuit; in the inner loop, besides, `k` is the cursor of the node in hand.
 -- The measures are the steps left, and `k`, since the arcs of a node fall. Assumes nothing.
-use Prim.Native.Nat.{_+_, _-_}
+use mathlib.Core.Path.{_≡_, sym, _∙_}
 use mathlib.Core.Logic.{⊎-elim}
+use Prim.Native.Nat.{ℕ, _+_}
 use native.Mathlib.Omega.{arith}
+use lib.ListN.{length, length-replicate}
 use borrow.Author.Needs.{needs}
 use borrow.Author.Tests.{not-true, not-false}
-use Rattle.walk_circuit.proofs.Standing.{Within, stand}
+use Rattle.walk_circuit.proofs.Standing.{Stand, Within, stand}
 use Rattle.graph_adjacency.specs.Lists.{Adjacency, adjacency}
+use Rattle.walk_marks.specs.Marks.{words, marksIn}
 use Rattle.graph_arrays.specs.Arrays.{EdgesLinked}
 use Rattle.walk_circuit.proofs.Walks.{Walks, Looks, Over, ArcIn, looks-arc, walks-within, walks-less, walks-look, pass-looks, push-walks, pop-walks, over-walks, out-walks, over-put, put-in, start-walks}
 use Rattle.walk_circuit.proofs.circuit.Statement.{statement}
@@ -14,7 +17,7 @@ use Rattle.walk_circuit.proofs.circuit.Tie as tie
 
 abbrev Inv-loop : tie.InvT-loop
 Inv-loop ends weights next heads n m s nodes₀ bys₀ used₀ cursors₀ depth₀ node₀ by₀ place fuel k₀ nodes bys used cursors depth node by k =
-    Within n nodes bys depth node place × Walks n m (adjacency ends weights next heads) s (fuel + 1) (stand used cursors nodes bys depth node by place) × Looks n m (adjacency ends weights next heads) k (stand used cursors nodes bys depth node by place)
+    Within n nodes bys depth node place × Walks n m (adjacency ends weights next heads) s (fuel + 1) (stand (marksIn used) cursors nodes bys depth node by place) × Looks n m (adjacency ends weights next heads) k (stand (marksIn used) cursors nodes bys depth node by place) × (length used ≡ words)
 
 abbrev μ-loop : tie.MeasureT-loop
 μ-loop ends weights next heads n m s nodes₀ bys₀ used₀ cursors₀ depth₀ node₀ by₀ place fuel k₀ nodes bys used cursors depth node by k =
@@ -22,7 +25,7 @@ abbrev μ-loop : tie.MeasureT-loop
 
 abbrev Inv-walk : tie.InvT-walk
 Inv-walk ends weights next heads n m s nodes₀ bys₀ used₀ cursors₀ depth₀ node₀ by₀ place₀ fuel₀ nodes bys used cursors depth node by place fuel =
-    Within n nodes bys depth node place × Walks n m (adjacency ends weights next heads) s fuel (stand used cursors nodes bys depth node by place)
+    Within n nodes bys depth node place × Walks n m (adjacency ends weights next heads) s fuel (stand (marksIn used) cursors nodes bys depth node by place) × (length used ≡ words)
 
 abbrev μ-walk : tie.MeasureT-walk
 μ-walk ends weights next heads n m s nodes₀ bys₀ used₀ cursors₀ depth₀ node₀ by₀ place₀ fuel₀ nodes bys used cursors depth node by place fuel =
@@ -35,15 +38,22 @@ arrays c = adjacency (c .before .before .args .ends .now) (c .before .before .ar
 linked : (c : tie.After-bys Inv-loop μ-loop Inv-walk μ-walk) → EdgesLinked (c .before .before .args .n) (c .before .before .args .m) (arrays c)
 linked c = c .before .before .pre .1
 
+-- where the walk stands at the head of each loop
+abbrev stood : tie.At-walk Inv-loop μ-loop Inv-walk μ-walk → Stand
+stood c = stand (marksIn (c .walk .used)) (c .walk .cursors) (c .walk .nodes) (c .walk .bys) (c .walk .depth) (c .walk .node) (c .walk .by) (c .walk .place)
+
+abbrev looked : tie.At-loop Inv-loop μ-loop Inv-walk μ-walk → Stand
+looked c = stand (marksIn (c .loop .used)) (c .loop .cursors) (c .loop .nodes) (c .loop .bys) (c .loop .depth) (c .loop .node) (c .loop .by) (c .before .before .before .walk .place)
+
 -- the arc that is looked at
 arc : (c : tie.In-loop Inv-loop μ-loop Inv-walk μ-walk) → ArcIn (arrays (c .before .before .before .before .before .before)) (c .before .loop .node) (c .before .loop .k)
-arc c = looks-arc _ _ _ (linked (c .before .before .before .before .before .before)) _ (stand (c .before .loop .used) (c .before .loop .cursors) (c .before .loop .nodes) (c .before .loop .bys) (c .before .loop .depth) (c .before .loop .node) (c .before .loop .by) (c .before .before .before .before .walk .place)) (c .loop-test .taken) (c .before .loop .inv .2)
+arc c = looks-arc _ _ _ (linked (c .before .before .before .before .before .before)) _ (looked (c .before)) (c .loop-test .taken) (c .before .loop .inv .2)
 
 -- both ways out of the walk
 over : (c : tie.Left-walk Inv-loop μ-loop Inv-walk μ-walk) → Within (c .before .before .before .before .before .args .n) (c .walk-test .nodes) (c .walk-test .bys) (c .walk-test .depth) (c .walk-test .node) (c .before .walk .place) × Over (c .before .before .before .before .before .args .n) (c .before .before .before .before .before .args .m) (arrays (c .before .before .before)) (c .before .before .before .before .before .args .s) (c .walk-test .nodes) (c .walk-test .bys) (c .walk-test .node) (c .walk-test .by) (c .before .walk .place)
 over c = ⊎-elim
-    (λ w. rw (w .1, w .2, w .3, w .4, w .5) (c .before .walk .inv .0, out-walks _ _ _ (linked (c .before .before .before)) _ _ (stand (c .before .walk .used) (c .before .walk .cursors) (c .before .walk .nodes) (c .before .walk .bys) (c .before .walk .depth) (c .before .walk .node) (c .before .walk .by) (c .before .walk .place)) (w .0 .left) (c .before .walk .inv .1)))
-    (λ w. rw (w .5, w .6, w .7, w .8, w .9) (w .2 .inv .0, over-walks _ _ _ (linked (c .before .before .before)) _ _ _ (stand (w .2 .used) (w .2 .cursors) (w .2 .nodes) (w .2 .bys) (w .2 .depth) (w .2 .node) (w .2 .by) (c .before .walk .place)) (w .3 .left) (w .4 .taken) (w .2 .inv .1) (w .2 .inv .2)))
+    (λ w. rw (w .1, w .2, w .3, w .4, w .5) (c .before .walk .inv .0, out-walks _ _ _ (linked (c .before .before .before)) _ _ (stood (c .before)) (w .0 .left) (c .before .walk .inv .1)))
+    (λ w. rw (w .5, w .6, w .7, w .8, w .9) (w .2 .inv .0, over-walks _ _ _ (linked (c .before .before .before)) _ _ _ (stand (marksIn (w .2 .used)) (w .2 .cursors) (w .2 .nodes) (w .2 .bys) (w .2 .depth) (w .2 .node) (w .2 .by) (c .before .walk .place)) (w .3 .left) (w .4 .taken) (w .2 .inv .1) (w .2 .inv .2)))
     (c .walk-test .came)
 
 first-arcs-requires : tie.Need-first-arcs-requires Inv-loop μ-loop Inv-walk μ-walk
@@ -58,7 +68,7 @@ add-fuel c = search needs
 walk-holds : tie.Need-walk-holds Inv-loop μ-loop Inv-walk μ-walk
 walk-holds c =
     let w = start-walks _ _ _ (linked (c .before)) _ _ (c .first-arcs .ensures) (c .before .before .before .pre .0) in
-    (walks-within _ _ _ (linked (c .before)) _ _ _ w, w)
+    (walks-within _ _ _ (linked (c .before)) _ _ _ w, w, length-replicate {A = ℕ} words 0)
 
 sub-fuel : tie.Need-sub-fuel Inv-loop μ-loop Inv-walk μ-walk
 sub-fuel c = search needs
@@ -74,20 +84,28 @@ wide-requires c κs = search needs
 
 loop-holds : tie.Need-loop-holds Inv-loop μ-loop Inv-walk μ-walk
 loop-holds c =
-    let t = stand (c .before .before .walk .used) (c .before .before .walk .cursors) (c .before .before .walk .nodes) (c .before .before .walk .bys) (c .before .before .walk .depth) (c .before .before .walk .node) (c .before .before .walk .by) (c .before .before .walk .place) in
-    (c .before .before .walk .inv .0, walks-less _ _ _ (linked (c .before .before .before .before)) _ _ t (c .before .walk-test .taken) (c .before .before .walk .inv .1), walks-look _ _ _ (linked (c .before .before .before .before)) _ _ _ t (c .before .before .walk .inv .1) (c .wide .ensures))
+    let a = c .before .before in
+    (a .walk .inv .0, walks-less _ _ _ (linked (a .before .before)) _ _ (stood a) (c .before .walk-test .taken) (a .walk .inv .1), walks-look _ _ _ (linked (a .before .before)) _ _ _ (stood a) (a .walk .inv .1) (c .wide .ensures), a .walk .inv .2)
 
 edge-number-requires : tie.Need-edge-number-requires Inv-loop μ-loop Inv-walk μ-walk
 edge-number-requires c κs = search needs
 
-array-read-if1 : tie.Need-array-read-if1 Inv-loop μ-loop Inv-walk μ-walk
-array-read-if1 c = omega (arith, arc (c .before) .isEdge, c .edge-number .ensures)
+next-arc-requires : tie.Need-next-arc-requires Inv-loop μ-loop Inv-walk μ-walk
+next-arc-requires c κs = (search needs, arc (c .before) .within, search needs)
 
-array-write-used : tie.Need-array-write-used Inv-loop μ-loop Inv-walk μ-walk
-array-write-used c = omega (arith, arc (c .before .before) .isEdge, c .before .edge-number .ensures)
+is-used-requires : tie.Need-is-used-requires Inv-loop μ-loop Inv-walk μ-walk
+is-used-requires c κs = let e = c .before .before in omega (arith, arc (e .before) .isEdge, e .edge-number .ensures)
+
+mark-used-requires : tie.Need-mark-used-requires Inv-loop μ-loop Inv-walk μ-walk
+mark-used-requires c κs =
+    let e = c .before .before .before .before .before in
+    (omega (arith, arc (e .before) .isEdge, e .edge-number .ensures), e .before .before .loop .inv .3)
 
 cast-cursors : tie.Need-cast-cursors Inv-loop μ-loop Inv-walk μ-walk
-cast-cursors c = record { fits = omega (arith, arc (c .before .before) .within) }
+cast-cursors c =
+    let a = c .before .before .before .before .before in
+    let there = arc (a .before .before) in
+    record { fits = omega (arith, there .within, there .falls, a .next-arc .ensures) }
 
 mul-cursors : tie.Need-mul-cursors Inv-loop μ-loop Inv-walk μ-walk
 mul-cursors c = search needs
@@ -117,41 +135,43 @@ sub-wide : tie.Need-sub-wide Inv-loop μ-loop Inv-walk μ-walk
 sub-wide c = search needs
 
 mul-wide-2 : tie.Need-mul-wide-2 Inv-loop μ-loop Inv-walk μ-walk
-mul-wide-2 c = omega (arith, arc (c .before .before) .within)
+mul-wide-2 c = omega (arith, arc (c .before .before .before .before .before .before .before) .within)
 
 element-copy-out-wide : tie.Need-element-copy-out-wide Inv-loop μ-loop Inv-walk μ-walk
-element-copy-out-wide c = omega (arith, arc (c .before .before) .within)
+element-copy-out-wide c = omega (arith, arc (c .before .before .before .before .before .before .before) .within)
 
 wide-requires-2 : tie.Need-wide-requires-2 Inv-loop μ-loop Inv-walk μ-walk
 wide-requires-2 c κs = search needs
 
 add-by : tie.Need-add-by Inv-loop μ-loop Inv-walk μ-walk
-add-by c = omega (arith, arc (c .before .before .before .before) .isEdge, c .before .before .before .edge-number .ensures)
+add-by c = let e = c .before .before .before .before .before .before .before .before in omega (arith, arc (e .before) .isEdge, e .edge-number .ensures)
 
 cast-by : tie.Need-cast-by Inv-loop μ-loop Inv-walk μ-walk
-cast-by c = omega (arith, arc (c .before .before .before .before) .isEdge, c .before .before .before .edge-number .ensures)
+cast-by c = let e = c .before .before .before .before .before .before .before .before in omega (arith, arc (e .before) .isEdge, e .edge-number .ensures)
 
 walk-less : tie.Need-walk-less Inv-loop μ-loop Inv-walk μ-walk
 walk-less c = search needs
 
 walk-again : tie.Need-walk-again Inv-loop μ-loop Inv-walk μ-walk
 walk-again c =
-    let a = c .before .before .before .before .before in
-    let t = stand (a .loop .used) (a .loop .cursors) (a .loop .nodes) (a .loop .bys) (a .loop .depth) (a .loop .node) (a .loop .by) (a .before .before .before .walk .place) in
-    let w = push-walks _ _ _ (linked (a .before .before .before .before .before)) _ _ _ _ _ t (c .before .before .before .before .loop-test .taken) (c .before .before .before .edge-number .ensures) (c .wide2 .ensures) (a .loop .inv .1) (a .loop .inv .2) (not-true _ (c .before .before .if1 .taken)) in
-    (walks-within _ _ _ (linked (a .before .before .before .before .before)) _ _ _ w, w)
-
-next-arc-requires : tie.Need-next-arc-requires Inv-loop μ-loop Inv-walk μ-walk
-next-arc-requires c κs = (search needs, arc (c .before .before) .within, search needs)
+    let m = c .before .before in
+    let u = m .before .before .before in
+    let x = u .before .before in
+    let e = x .before in
+    let a = e .before .before in
+    let w = push-walks _ _ _ (linked (a .before .before .before .before .before)) _ _ _ _ _ _ (looked a) (e .before .loop-test .taken) (e .edge-number .ensures) (x .next-arc .ensures) (c .wide2 .ensures) (a .loop .inv .1) (a .loop .inv .2) (sym (u .is-used .ensures) ∙ not-true _ (m .before .before .if1 .taken)) in
+    rw (m .mark-used .ensures .0) (walks-within _ _ _ (linked (a .before .before .before .before .before)) _ _ _ w, w, m .mark-used .ensures .1)
 
 loop-less : tie.Need-loop-less Inv-loop μ-loop Inv-walk μ-walk
-loop-less c = omega (arith, arc (c .before .before .before) .falls, c .next-arc .ensures)
+loop-less c = let x = c .before .before .before in omega (arith, arc (x .before .before) .falls, x .next-arc .ensures)
 
 loop-again : tie.Need-loop-again Inv-loop μ-loop Inv-walk μ-walk
 loop-again c =
-    let a = c .before .before .before .before in
-    let t = stand (a .loop .used) (a .loop .cursors) (a .loop .nodes) (a .loop .bys) (a .loop .depth) (a .loop .node) (a .loop .by) (a .before .before .before .walk .place) in
-    (a .loop .inv .0, a .loop .inv .1, pass-looks _ _ _ (linked (a .before .before .before .before .before)) _ _ _ _ _ t (c .before .before .before .loop-test .taken) (c .before .before .edge-number .ensures) (c .next-arc .ensures) (a .loop .inv .1) (a .loop .inv .2) (not-false _ (c .before .if1 .left)))
+    let u = c .before in
+    let x = u .before .before in
+    let e = x .before in
+    let a = e .before .before in
+    (a .loop .inv .0, a .loop .inv .1, pass-looks _ _ _ (linked (a .before .before .before .before .before)) _ _ _ _ _ (looked a) (e .before .loop-test .taken) (e .edge-number .ensures) (x .next-arc .ensures) (a .loop .inv .1) (a .loop .inv .2) (sym (u .is-used .ensures) ∙ not-false _ (c .if1 .left)), a .loop .inv .3)
 
 mul-cursors-2 : tie.Need-mul-cursors-2 Inv-loop μ-loop Inv-walk μ-walk
 mul-cursors-2 c = search needs
@@ -202,9 +222,8 @@ walk-again-2 : tie.Need-walk-again-2 Inv-loop μ-loop Inv-walk μ-walk
 walk-again-2 c =
     let b = c .before .before .before .before in
     let a = b .before in
-    let t = stand (a .loop .used) (a .loop .cursors) (a .loop .nodes) (a .loop .bys) (a .loop .depth) (a .loop .node) (a .loop .by) (a .before .before .before .walk .place) in
-    let w = pop-walks _ _ _ (linked (a .before .before .before .before .before)) _ _ _ _ t (b .loop-test .left) (c .before .before .before .if2 .left) (c .before .wide3 .ensures) (a .loop .inv .1) (a .loop .inv .2) in
-    (walks-within _ _ _ (linked (a .before .before .before .before .before)) _ _ _ w, w)
+    let w = pop-walks _ _ _ (linked (a .before .before .before .before .before)) _ _ _ _ (looked a) (b .loop-test .left) (c .before .before .before .if2 .left) (c .before .wide3 .ensures) (a .loop .inv .1) (a .loop .inv .2) in
+    (walks-within _ _ _ (linked (a .before .before .before .before .before)) _ _ _ w, w, a .loop .inv .3)
 
 sub-place-2 : tie.Need-sub-place-2 Inv-loop μ-loop Inv-walk μ-walk
 sub-place-2 c = omega (arith, over c .0 .place-some)
@@ -245,8 +264,9 @@ circuit-spec =
     wide-requires
     loop-holds
     edge-number-requires
-    array-read-if1
-    array-write-used
+    next-arc-requires
+    is-used-requires
+    mark-used-requires
     cast-cursors
     mul-cursors
     array-write-cursors
@@ -264,7 +284,6 @@ circuit-spec =
     cast-by
     walk-less
     walk-again
-    next-arc-requires
     loop-less
     loop-again
     mul-cursors-2

@@ -20,7 +20,7 @@ circuit-requires : tie.Need-circuit-requires
 unfolding ofBits
 circuit-requires c κs =
     let b = c .before .before .before .before .before .before .before .before .before .before .before in
-    (b .pre .0 .2, virtual-linked _ _ _ _ (arrays b) _ (b .pre .1 .1) (b .pre .1 .0) (b .pre .0 .0) (b .pre .0 .1) (c .before .before .before .before .before .before .push-edge .ensures))
+    (b .pre .0 .2, virtual-linked _ _ _ _ (arrays b) _ (b .pre .1 .1 .1) (b .pre .1 .1 .0) (b .pre .0 .0) (b .pre .0 .1) (c .before .before .before .before .before .before .push-edge .ensures) (b .pre .1 .0))
 
 cut-requires : tie.Need-cut-requires
 cut-requires c κs = search needs
@@ -30,7 +30,7 @@ unfolding ofBits
 returns c =
     let b = c .before .before .before .before .before .before .before .before .before .before .before .before .before .before .before .before in
     let walked = c .before .before .before .before .circuit .ensures in (
-      c .cut .ensures .0 ∙ open-is _ _ _ _ (arrays b) _ (b .pre .1 .1) (b .pre .1 .0) (b .pre .0 .0) (b .pre .0 .1) (c .before .before .before .before .before .before .before .before .before .before .before .push-edge .ensures) _ _ _ _ (walked .0),
+      c .cut .ensures .0 ∙ open-is _ _ _ _ (arrays b) _ (b .pre .1 .1 .1) (b .pre .1 .1 .0) (b .pre .0 .0) (b .pre .0 .1) (c .before .before .before .before .before .before .before .before .before .before .before .push-edge .ensures) _ _ _ _ (walked .0),
       c .cut .ensures .1 _ (walked .1),
     )
 
