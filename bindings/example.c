@@ -39,6 +39,10 @@ _Static_assert(sizeof(struct planner_saved) == 16, "the size of what saving answ
 _Static_assert(sizeof((struct planner_saved){0}.refusal) == 4, "its refusal is a uint32_t");
 _Static_assert(offsetof(struct planner_saved, refusal) == 0, "its refusal");
 _Static_assert(offsetof(struct planner_saved, bytes) == 8, "bytes");
+_Static_assert(PLANNER_FLOATS_FOR(4) == 32 && PLANNER_BYTES_FOR(4) == 16, "tables for 4 odd points");
+_Static_assert(PLANNER_FLOATS_FOR(22) == 484 && PLANNER_BYTES_FOR(22) == 0, "and for 22");
+_Static_assert(PLANNER_ENOUGH_FLOATS == 1048976 && PLANNER_ENOUGH_BYTES == 1048576, "and for every drawing");
+_Static_assert(PLANNER_FLOATS_FOR(PLANNER_MOST_ODD) <= PLANNER_ENOUGH_FLOATS, "the most odd points among them");
 _Static_assert(PLANNER_MOST_FILE == 16 + 6 * PLANNER_MOST_LINES + 16 * PLANNER_MOST_DRAWN_POINTS + 46 * PLANNER_MOST_LINKS,
                "the largest file: settings, heads of lines, points, links");
 
@@ -293,6 +297,44 @@ static void minus_zeros_saved(void)
     free(again);
 }
 
+/* A comb of 20 teeth with optimal pairing: 42 odd points. So many floats as PLANNER_FLOATS_FOR says are just enough, and no bytes
+ * are needed. */
+static void many_odd_points(void)
+{
+    enum { TEETH = 20, ODD = 2 * TEETH + 2 };
+    static struct planner_drawing d;
+    const size_t tried[][2] = {{PLANNER_FLOATS_FOR(ODD), PLANNER_BYTES_FOR(ODD)}, {PLANNER_FLOATS_FOR(ODD) - 1, PLANNER_ENOUGH_BYTES},
+                               {PLANNER_ENOUGH_FLOATS, PLANNER_ENOUGH_BYTES}};
+    size_t output_length = PLANNER_OUTPUT_FOR(PLANNER_MOST_POINTS);
+    uint8_t *file = destination_for(PLANNER_MOST_FILE), *output = room(output_length);
+    double *floats = room(PLANNER_ENOUGH_FLOATS * sizeof *floats);
+    uint8_t *bytes = room(PLANNER_ENOUGH_BYTES);
+    planner_begin(&d, 46, 13, PLANNER_OPTIMAL, 0);
+    planner_line(&d);
+    for (int x = 2; x <= 2 * TEETH + 4; x += 2)
+        planner_point(&d, x, 4);
+    for (int x = 4; x <= 2 * TEETH + 2; x += 2) {
+        planner_line(&d);
+        planner_point(&d, x, 4);
+        planner_point(&d, x, 10);
+    }
+    struct planner_saved r = saved_to(&d, file, PLANNER_MOST_FILE);
+    for (size_t i = 0; i < sizeof tried / sizeof *tried; i++) {
+        for (size_t k = 0; k < tried[i][0]; k++)
+            floats[k] = -1.5;
+        memset(bytes, UNTOUCHED, tried[i][1]);
+        memset(output, UNTOUCHED, output_length);
+        struct planner_outcome o = plan(file, r.bytes, floats, tried[i][0], tried[i][1] ? bytes : NULL, tried[i][1], output, output_length);
+        check_lent(o, floats, tried[i][0], bytes, tried[i][1], output, output_length);
+        if (tried[i][0] < PLANNER_FLOATS_FOR(ODD) ? o.refusal != PLANNER_TABLES_TOO_SMALL : o.refusal || o.before != ODD)
+            broken("n*n floats are just enough for n odd points above 20");
+    }
+    free(file);
+    free(floats);
+    free(bytes);
+    free(output);
+}
+
 static void built(const char *path)
 {
     static struct planner_drawing d;
@@ -329,6 +371,7 @@ static void built(const char *path)
         broken("too much is told by 6");
     linked_by_the_planner();
     minus_zeros_saved();
+    many_odd_points();
     FILE *target = fopen(path, "wb");
     if (!target || fwrite(file, 1, r.bytes, target) != r.bytes || fclose(target) != 0)
         wrong("the drawing can't be written there");

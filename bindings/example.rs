@@ -16,11 +16,16 @@
 //! 2 MB of stack that a thread has by default.
 mod planner;
 
-use planner::{bytes_for, floats_for, output_for, Drawing, End, Refusal, Settings, CLOSE, LINK, MOST_FILE, MOST_POINTS};
+use planner::{bytes_for, floats_for, output_for, Drawing, End, Refusal, Settings, CLOSE, LINK, MOST_FILE, MOST_POINTS, OPTIMAL};
+use planner::{ENOUGH_BYTES, ENOUGH_FLOATS, MOST_ODD};
 use std::io::{Read, Write};
 use std::process::exit;
 
 const UNTOUCHED: u8 = 0xA5;
+
+// Tables for 4 and for 22 odd points, and for every drawing, the most odd points among them.
+const _: () = assert!(floats_for(4) == 32 && bytes_for(4) == 16 && floats_for(22) == 484 && bytes_for(22) == 0);
+const _: () = assert!(ENOUGH_FLOATS == 1_048_976 && ENOUGH_BYTES == 1_048_576 && floats_for(MOST_ODD) <= ENOUGH_FLOATS);
 
 fn holds(promise: &str, kept: bool) {
     if !kept {
@@ -158,6 +163,29 @@ fn minus_zeros_saved() {
     holds("-0.0 is saved as 0.0", file.is_ok() && again == file);
 }
 
+/// A comb of 20 teeth with optimal pairing: 42 odd points. So many floats as `floats_for` says are just enough, and no bytes are
+/// needed.
+fn many_odd_points() {
+    const ODD: usize = 42;
+    let mut drawing = Drawing::new(46, 13);
+    drawing.pairing(OPTIMAL);
+    let back: Vec<(f64, f64)> = (1..=22).map(|i| (f64::from(2 * i), 4.0)).collect();
+    drawing.line(&back);
+    for (x, y) in &back[1..21] {
+        drawing.line(&[(*x, *y), (*x, 10.0)]);
+    }
+    let file = drawing.save().unwrap_or_else(|refusal| wrong(&refusal.to_string()));
+    let answer = |floats: usize, bytes: usize| {
+        let (mut floats, mut bytes) = (vec![-1.5; floats], vec![UNTOUCHED; bytes]);
+        let answer = planner::plan(&file, &mut floats, &mut bytes, &mut vec![0; output_for(MOST_POINTS)]).map(|plan| plan.odd_before);
+        holds("both tables are zero afterwards", floats.iter().all(|x| x.to_bits() == 0) && bytes.iter().all(|x| *x == 0));
+        answer
+    };
+    holds("n * n floats are enough for n odd points above 20", answer(floats_for(ODD), bytes_for(ODD)) == Ok(ODD));
+    holds("one fewer is too short", answer(floats_for(ODD) - 1, ENOUGH_BYTES) == Err(Refusal::TablesTooSmall));
+    holds("tables for every drawing are enough for this one", answer(ENOUGH_FLOATS, ENOUGH_BYTES) == Ok(ODD));
+}
+
 fn built(path: &str) {
     check_grid();
     let drawing = drawn();
@@ -186,6 +214,7 @@ fn built(path: &str) {
     holds("too much is told by 6", to(&much, MOST_FILE) == Err(Refusal::TooMuch));
     linked_by_the_planner();
     minus_zeros_saved();
+    many_odd_points();
     holds("the drawing can be written there", std::fs::write(path, &file).is_ok());
     planned(path, [0, 0, output_for(MOST_POINTS)]);
 }

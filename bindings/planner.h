@@ -19,7 +19,7 @@ extern "C" {
 #endif
 
 /* Why a drawing is refused: the first condition that holds, in this order. 16 is of save_drawing alone, and 4 says something
- * else there. */
+ * else there. 10 is given no more: it refused optimal pairing with more than 20 odd points, and such drawings are planned now. */
 enum planner_refusal {
     PLANNER_PLANNED = 0,              /* not refused */
     PLANNER_SAVED = 0,                /* the same, of save_drawing */
@@ -34,7 +34,6 @@ enum planner_refusal {
     PLANNER_OFF_THE_GRID = 7,         /* a coordinate is no multiple of 1/1024 from -4,096 to 4,096 */
     PLANNER_LINK_ASTRAY = 8,          /* a link names a line or a segment that is not there */
     PLANNER_UNLINKED = 9,             /* some part can't be reached from the first point; never with flag 4 */
-    PLANNER_TOO_MANY_ODD = 10,        /* optimal pairing, and more than 20 odd points */
     PLANNER_TABLES_TOO_SMALL = 11,    /* optimal pairing, and tables too short for the odd points: see below */
     PLANNER_NO_WAY_BACK = 12,         /* proved never to happen */
     PLANNER_TOO_MANY_STEPS = 13,      /* with its retraces the drawing has more than 4,000 strokes */
@@ -42,12 +41,24 @@ enum planner_refusal {
     PLANNER_DESTINATION_TOO_SMALL = 16 /* of save_drawing, never of plan: the destination is shorter than the file */
 };
 
-/* Sizes to lend. For optimal pairing with n odd points, n from 4 to 20, the tables need 2^n + n*n and 2^n entries; in
- * every other case they may have none. PLANNER_MOST_POINTS is of the line that plan answers, so that an output for so many
- * is large enough for every line; a drawing may have PLANNER_MOST_DRAWN_POINTS. */
-#define PLANNER_FLOATS_FOR(n) (((size_t)1 << (n)) + (size_t)(n) * (size_t)(n))
-#define PLANNER_BYTES_FOR(n) ((size_t)1 << (n))
+/* Sizes to lend. Only optimal pairing needs tables, from 4 odd points on: for a drawing with n of them 2^n + n*n floats and
+ * 2^n bytes, and where n is above PLANNER_MOST_OPTIMAL n*n floats and no bytes. Up to PLANNER_MOST_OPTIMAL odd points all choices
+ * of pairs are compared; a drawing has at most PLANNER_MOST_ODD.
+ *
+ * Tables of PLANNER_ENOUGH_FLOATS and PLANNER_ENOUGH_BYTES (8.4 MB and 1 MB) are enough for every drawing: whoever lends these
+ * is never given PLANNER_TABLES_TOO_SMALL. They are the tables for 20 odd points. The tables for more than 20 have no bytes, so
+ * they are not enough for 4 to 20.
+ *
+ * PLANNER_MOST_POINTS is of the line that plan answers, so that an output for so many is large enough for every line; a
+ * drawing may have PLANNER_MOST_DRAWN_POINTS.
+ *
+ * (n & 31 is n where it counts. Above 63 a shift by n itself would be undefined.) */
 #define PLANNER_MOST_OPTIMAL 20
+#define PLANNER_MOST_ODD 1022
+#define PLANNER_BYTES_FOR(n) ((n) > PLANNER_MOST_OPTIMAL ? (size_t)0 : (size_t)1 << ((n) & 31))
+#define PLANNER_FLOATS_FOR(n) (PLANNER_BYTES_FOR(n) + (size_t)(n) * (size_t)(n))
+#define PLANNER_ENOUGH_FLOATS PLANNER_FLOATS_FOR(PLANNER_MOST_OPTIMAL)
+#define PLANNER_ENOUGH_BYTES PLANNER_BYTES_FOR(PLANNER_MOST_OPTIMAL)
 #define PLANNER_MOST_POINTS 4001
 #define PLANNER_OUTPUT_FOR(points) (6 + 16 * (size_t)(points))
 
@@ -71,7 +82,7 @@ struct planner_outcome {
  * doubles are aligned as C aligns them, the four ranges do not overlap, and nobody else reads or writes them before the
  * call returns. The call keeps no pointer, takes no memory from the heap and has no state of its own, so several
  * threads may call it at once, each with its own tables and output. The planner's arrays stand on the stack of the
- * calling thread: 217,104 bytes were the most that any of 178 drawings took (docs/PERFORMANCE.md), and tools/test runs
+ * calling thread: 252,248 bytes were the most that any of 203 drawings took (docs/PERFORMANCE.md), and tools/test runs
  * the examples with 2 MB.
  */
 struct planner_outcome plan(const uint8_t *file, size_t file_length, double *floats, size_t floats_length,

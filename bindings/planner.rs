@@ -19,7 +19,7 @@
 #![allow(dead_code)]
 
 /// Why a drawing is refused: the first condition that holds, in this order. 16 is of saving alone, and 4 says something else
-/// there.
+/// there. 10 is given no more: it refused optimal pairing with more than 20 odd points, and such drawings are planned now.
 #[derive(Clone, Copy, Debug, PartialEq, Eq)]
 pub enum Refusal {
     /// More than 65,536 bytes.
@@ -42,8 +42,6 @@ pub enum Refusal {
     LinkAstray = 8,
     /// Some part can't be reached from the first point; never with flag 4.
     Unlinked = 9,
-    /// Optimal pairing, and more than 20 odd points.
-    TooManyOdd = 10,
     /// Optimal pairing, and tables too short for the odd points: see `floats_for`.
     TablesTooSmall = 11,
     /// Proved never to happen.
@@ -57,7 +55,7 @@ pub enum Refusal {
 }
 
 impl Refusal {
-    const ALL: [Refusal; 16] = [
+    const ALL: [Refusal; 15] = [
         Refusal::FileTooLong,
         Refusal::RecordCutOff,
         Refusal::RecordsOutOfOrder,
@@ -68,7 +66,6 @@ impl Refusal {
         Refusal::OffTheGrid,
         Refusal::LinkAstray,
         Refusal::Unlinked,
-        Refusal::TooManyOdd,
         Refusal::TablesTooSmall,
         Refusal::NoWayBack,
         Refusal::TooManySteps,
@@ -76,7 +73,7 @@ impl Refusal {
         Refusal::DestinationTooSmall,
     ];
 
-    /// The refusal with this number, 1 to 16.
+    /// The refusal with this number, 1 to 16 but for 10.
     pub fn of_number(number: u32) -> Option<Refusal> {
         Refusal::ALL.into_iter().find(|r| *r as u32 == number)
     }
@@ -96,7 +93,6 @@ impl std::fmt::Display for Refusal {
             Refusal::OffTheGrid => "a coordinate is not on the grid",
             Refusal::LinkAstray => "a link names a line or a segment that is not there",
             Refusal::Unlinked => "some part can't be reached from the first point",
-            Refusal::TooManyOdd => "there are more than 20 odd points for optimal pairing",
             Refusal::TablesTooSmall => "the tables are too short for the odd points",
             Refusal::NoWayBack => "no way back was found",
             Refusal::TooManySteps => "with its retraces the drawing has more than 4,000 strokes",
@@ -132,20 +128,30 @@ impl<'a> Plan<'a> {
     }
 }
 
-/// The most odd points that optimal pairing takes.
+/// Up to so many odd points optimal pairing compares all choices of pairs.
 pub const MOST_OPTIMAL: usize = 20;
+/// The most odd points that a drawing has.
+pub const MOST_ODD: usize = 1022;
 /// The most points of the line that `plan` answers; a drawing may have `MOST_DRAWN_POINTS`.
 pub const MOST_POINTS: usize = 4001;
 
-/// Entries of the f64 table for optimal pairing with n odd points, n from 4 to 20; otherwise none are needed.
+/// Entries of the f64 table for optimal pairing of a drawing with n odd points, n from 4 to `MOST_ODD`; otherwise none are
+/// needed. Tables for more than 20 have no bytes, so they are not enough for 4 to 20; those of `ENOUGH_FLOATS` and `ENOUGH_BYTES`
+/// are enough for every drawing.
 pub const fn floats_for(n: usize) -> usize {
-    (1 << n) + n * n
+    bytes_for(n) + n * n
 }
 
-/// Entries of the byte table, likewise.
+/// Entries of the byte table, likewise: none above `MOST_OPTIMAL` odd points.
 pub const fn bytes_for(n: usize) -> usize {
-    1 << n
+    if n > MOST_OPTIMAL { 0 } else { 1 << n }
 }
+
+/// Entries of an f64 table for every drawing: it is the one for 20 odd points. Whoever lends so many floats (8.4 MB) and
+/// `ENOUGH_BYTES` is never given `TablesTooSmall`.
+pub const ENOUGH_FLOATS: usize = floats_for(MOST_OPTIMAL);
+/// Entries of a byte table for every drawing, likewise.
+pub const ENOUGH_BYTES: usize = bytes_for(MOST_OPTIMAL);
 
 /// Bytes of the output for a line of so many points.
 pub const fn output_for(points: usize) -> usize {
@@ -157,7 +163,7 @@ pub const fn output_for(points: usize) -> usize {
 ///
 /// Planned: the front of the output holds the line as a record of kind 4, and later bytes keep their values. Refused:
 /// all of the output keeps its values. In both cases both tables are zero afterwards, whatever they held before.
-/// The planner's arrays stand on the stack of the calling thread: 217,104 bytes were the most that any of 178 drawings
+/// The planner's arrays stand on the stack of the calling thread: 252,248 bytes were the most that any of 203 drawings
 /// took, where a thread has 2 MB by default.
 pub fn plan<'a>(file: &[u8], floats: &mut [f64], bytes: &mut [u8], output: &'a mut [u8]) -> Result<Plan<'a>, Refusal> {
     // SAFETY: each pointer and length are those of one slice, a `&mut` overlaps no other, and the callee keeps no

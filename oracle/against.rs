@@ -108,7 +108,7 @@ impl Tally {
         let (floats, bytes) = match wanted {
             Ok(plan) => needed(file, plan.odd_before),
             // The tables' lengths do not matter before check 11.
-            Err(1..=10 | 15) => (0, 0),
+            Err(1..=9 | 15) => (0, 0),
             Err(_) => (lent.f64_entries, lent.byte_entries),
         };
         let more = if self.calls % 64 == 63 { 1 << 40 } else { self.calls % 40 };
@@ -144,26 +144,40 @@ impl Tally {
         }
     }
 
-    /// Drawings that are refused with every table and output give nothing to compare here.
+    /// Drawings that are refused with every table and output give nothing to compare here, but for 13, which comes behind 11.
     fn compare_sizes(&mut self, lender: &mut Lender, file: &[u8]) {
         self.drawings += 1;
+        // 1,022 odd nodes are the most that a file can have, and ask for fewer floats than 20 do.
         let most = Lent { f64_entries: (1 << 20) + 400, byte_entries: 1 << 20, output_bytes: 6 + 16 * 4001 };
-        let Ok(plan) = stand_in::plan(file, most) else {
-            return;
+        let plan = match stand_in::plan(file, most) {
+            Ok(plan) => plan,
+            Err(13) => return self.compare_short(lender, file, most),
+            Err(_) => return,
         };
         let (n, output) = (plan.odd_before, 6 + 16 * plan.points.len());
         let (floats, bytes) = needed(file, n);
         let mut call = |lent| self.call(lender, file, lent, &stand_in::plan(file, lent));
         let enough = Lent { f64_entries: floats, byte_entries: bytes, output_bytes: output };
         // Optimal with many odd nodes takes the published planner long.
-        let reach = if n > 12 && floats > 0 { 2 } else { 20 };
-        if floats > 0 {
+        let reach = if floats > 0 && n > 200 { 1 } else if floats > 0 && n > 12 { 2 } else { 20 };
+        if bytes > 0 {
             for short in [0, 1, n * n, 4 * n, 1 << (n - 1), 1 << n] {
                 call(Lent { f64_entries: short, ..enough });
                 call(Lent { byte_entries: short.min(bytes), ..enough });
             }
             call(Lent { f64_entries: floats - 1, byte_entries: bytes - 1, ..enough });
+        } else if floats > 0 {
+            // Above 20 odd nodes the byte table is not asked: none is lent, or some, and none of them makes up for a float.
+            for short in [0, 1, 4 * n, 20 * 20, n * n / 2, n * n - n] {
+                call(Lent { f64_entries: short, ..enough });
+            }
+            call(Lent { f64_entries: floats - 1, byte_entries: MOST_ENTRIES, ..enough });
+            call(Lent { f64_entries: floats - 1, byte_entries: n * n, ..enough });
+            call(Lent { byte_entries: 4096, ..enough });
+        }
+        if floats > 0 {
             call(Lent { f64_entries: floats - 1, output_bytes: output - 1, ..enough });
+            call(Lent { f64_entries: floats - 1, output_bytes: 0, ..enough });
         }
         for size in floats.saturating_sub(reach)..=floats + reach {
             call(Lent { f64_entries: size, ..enough });
@@ -173,6 +187,22 @@ impl Tally {
         }
         for size in (0..reach).chain(output.saturating_sub(reach)..=output + reach) {
             call(Lent { output_bytes: size, ..enough });
+        }
+    }
+
+    /// Short tables, and a short output, of a file that has 13 with long ones.
+    fn compare_short(&mut self, lender: &mut Lender, file: &[u8], most: Lent) {
+        let (floats, bytes) = needed(file, stand_in::odd_count(file));
+        let enough = Lent { f64_entries: floats, byte_entries: bytes, ..most };
+        let mut call = |lent| self.call(lender, file, lent, &stand_in::plan(file, lent));
+        for output in [0, most.output_bytes] {
+            call(Lent { output_bytes: output, ..enough });
+            if floats > 0 {
+                call(Lent { f64_entries: floats - 1, output_bytes: output, ..enough });
+            }
+            if bytes > 0 {
+                call(Lent { byte_entries: bytes - 1, output_bytes: output, ..enough });
+            }
         }
     }
 
@@ -187,10 +217,10 @@ impl Tally {
     }
 }
 
-/// The entries of both tables that check 11 asks for, of a file that passed check 10 with `n` odd nodes.
+/// The entries of both tables that check 11 asks for, of a file that passed check 9 with `n` odd nodes.
 fn needed(file: &[u8], n: usize) -> (usize, usize) {
     let is_optimal = file[14] == 1;
-    if is_optimal && n >= 4 { ((1 << n) + n * n, 1 << n) } else { (0, 0) }
+    if is_optimal { stand_in::entries_asked(n) } else { (0, 0) }
 }
 
 /// The kind 4 record.

@@ -179,25 +179,31 @@ def bricks(rows, columns, xs, ys, shift=lambda: 0):
             [[knot[x, y], knot[x, y + 1]] for y in range(rows - 1) for x in range(y % 2, columns, 2)])
 
 
-def honeycomb(rng):
-    """A wall of bricks, even or uneven: as many odd nodes as knots, up to about 400."""
+def wall(rng, most_rows=20, most_columns=40):
+    """A wall of bricks, even or uneven."""
     while True:
-        rows, columns = rng.randint(2, 20), rng.randint(2, 40)
+        rows, columns = rng.randint(2, most_rows), rng.randint(2, most_columns)
         uneven = rng.choice([0, 200, 500])
         gap = rng.choice([1500, 2 * STEP, STEP])
         lines = bricks(rows, columns, [gap * x for x in range(columns)], [gap * y for y in range(rows)],
                        lambda: rng.randint(-uneven, uneven))
         if len(lines) <= 256 and sum(map(len, lines)) <= 1024:
             rng.shuffle(lines)
-            settings = any_settings(rng, rng.choice([40, None]))
-            settings["pairing"] = rng.random() < 0.1
-            return write(lines, **settings), FULL
+            return lines
 
 
-def lace(rng, most=260):
+def honeycomb(rng):
+    """A wall of bricks, even or uneven: as many odd nodes as knots, up to about 400."""
+    lines = wall(rng)
+    settings = any_settings(rng, rng.choice([40, None]))
+    settings["pairing"] = rng.random() < 0.1
+    return write(lines, **settings), FULL
+
+
+def net(rng, most, least=4):
     """A random net: each knot tied to near ones, drawn in trails."""
     while True:
-        n = rng.randint(4, most)
+        n = rng.randint(least, most)
         reach = rng.choice([30, 3000, 40 * STEP, EDGE])
         knots = list({spot(rng, reach) for _ in range(n)})
         edges = []
@@ -206,13 +212,19 @@ def lace(rng, most=260):
             edges += [(knots[i], knots[j]) for j in rng.sample(near, rng.randint(1, len(near)))]
         lines = edges and trails(rng, edges)
         if lines:
-            settings = any_settings(rng)
-            settings["pairing"] = rng.random() < 0.1
-            return write(lines, **settings), FULL
+            return lines
 
 
-def comb(rng, m=None, tight=None):
-    """Teeth side by side, each linked to the one before or a near one: up to 1,022 odd nodes."""
+def lace(rng, most=260):
+    """A random net: each knot tied to near ones, drawn in trails."""
+    lines = net(rng, most)
+    settings = any_settings(rng)
+    settings["pairing"] = rng.random() < 0.1
+    return write(lines, **settings), FULL
+
+
+def toothed(rng, m=None, tight=None):
+    """Teeth side by side, each linked to the one before or a near one."""
     m = m or rng.choice([2, 5, 20, 60, 60, 120, 120, 256])
     # Links close to the teeth's ends make pairs that are near along the lines too, so repair stays small.
     tight = rng.random() < 0.5 if tight is None else tight
@@ -228,6 +240,12 @@ def comb(rng, m=None, tight=None):
         return (x, lines[k][0][1])
     links = [(j, 0, place(j, 0), i, 0, place(i, 1))
              for i in range(1, m) for j in [max(0, i - (1 if tight else rng.choice([1, 1, 1, 2, 5])))]]
+    return lines, links
+
+
+def comb(rng, m=None, tight=None):
+    """Teeth side by side, each linked to the one before or a near one: up to 1,022 odd nodes."""
+    lines, links = toothed(rng, m, tight)
     settings = any_settings(rng)
     settings["pairing"] = rng.random() < 0.1
     return write(lines, links, **settings), FULL
@@ -1045,7 +1063,7 @@ def drawn_again(rng, lines, count):
 
 
 def paired(rng, odd, largest=None):
-    """Any settings, Optimal only where there are few odd nodes or, now and then, to be refused."""
+    """Any settings, Optimal mostly where there are few odd nodes, since it takes the published planner long where there are many."""
     settings = any_settings(rng, largest)
     settings["pairing"] = int(rng.random() < (0.5 if odd <= 10 else 0.05))
     return settings
@@ -1243,6 +1261,290 @@ def many_visits(rng):
     return write(lines, drawn_again(rng, lines, linked), **paired(rng, 2 * linked, rng.choice([60, None]))), FULL
 
 
+# ---- Kinds with Optimal and more than 20 odd nodes: for the two pairings, their costs and the choice between them. ----
+
+def odd_places(lines, links=()):
+    """The odd nodes' places. However a segment is split, a split point has two ends of its pieces, so that only its own two ends count."""
+    odd = set()
+    for a, b in [pair for line in lines for pair in zip(line, line[1:])] + [(a, b) for _, _, a, _, _, b in links]:
+        odd ^= {a} ^ {b}
+    return odd
+
+
+def for_pairs(rng, n):
+    """What is lent for n odd nodes: mostly a float for each two of them, or a few more, now and then one too few; bytes are not asked above 20."""
+    floats = rng.choice([n * n] * 8 + [n * n + 1, n * n + 700, max(n * n, d.PLAN_F64), n * n - 1])
+    return dict(f64=floats, byte=rng.choice([0, 0, 1, 4096])) if n > 20 else FULL
+
+
+def many_odd(rng, lines, links=(), largest=None):
+    """The drawing with Optimal and any other settings."""
+    settings = dict(any_settings(rng, largest), pairing=1)
+    return write(lines, links, **settings), for_pairs(rng, len(odd_places(lines, links)))
+
+
+def how_many(rng, least=22, most=120):
+    """Odd nodes, most often few of them."""
+    return rng.randint(least, min(most, least + rng.choice([4, 18, 48, most])))
+
+
+def joined_anywhere(lines, pairs):
+    """The lines with a dot at a place of theirs, and links that name it, so that they split nothing."""
+    dot = len(lines)
+    return lines + [lines[0][:1]], [(dot, 0, a, dot, 0, b) for a, b in pairs]
+
+
+def many_odd_nets(rng):
+    """Lace and walls of bricks with 22 to some 120 odd nodes."""
+    lines = wall(rng, 8, 15) if rng.random() < 0.3 else net(rng, rng.choice([60, 90, 200]), 40)
+    return many_odd(rng, lines, largest=rng.choice([40, None]))
+
+
+def many_odd_combs(rng):
+    """Combs of 6 to 30 teeth, with two odd ends and up to two odd places of links at each."""
+    return many_odd(rng, *toothed(rng, how_many(rng, 24, 120) // 4))
+
+
+def arms_about(rng, hub, count, way):
+    """Tips about a hub, by how long its arms are: all equal, of two or three lengths, a step apart, or any."""
+    if way == "any":
+        return [(hub[0] + x, hub[1] + y) for x, y in places(rng, count, rng.choice([300, 9000, 60 * STEP]), but=[(0, 0)])]
+    tips = rng.sample(round_places(), count) if count <= 288 else places(rng, count, but=[(0, 0)])
+    if way == "few lengths":
+        scale = rng.choice([(1, 2), (1, 2, 3), (1, 1, 1, 4)])
+        tips = [(x * k, y * k) for x, y in tips for k in [rng.choice(scale)]]
+    if way == "a step apart":
+        tips = [(x + rng.choice([0, 0, 1, -1]), y) for x, y in tips]
+    return [(hub[0] + x, hub[1] + y) for x, y in dict.fromkeys(tips)]
+
+
+def with_knees(rng, hub, tip, knees):
+    """The way from a hub to a tip, with bends on or beside it whose lengths round."""
+    (ax, ay), (bx, by) = hub, tip
+    stray = rng.choice([0, 1, 40])
+    bend = lambda k: (ax + (bx - ax) * k // (knees + 1) + rng.randint(-stray, stray), ay + (by - ay) * k // (knees + 1) + rng.randint(-stray, stray))
+    return [hub, *(bend(k) for k in range(1, knees + 1)), tip]
+
+
+def star_lines(rng, hub, tips, knees):
+    """An arm to each tip, two of them in a line or one."""
+    arms = [with_knees(rng, hub, tip, knees if knees < 2 else rng.randint(1, knees)) for tip in tips]
+    rng.shuffle(arms)
+    lines, by_two = [], rng.choice([0, 0.7, 1])
+    while arms:
+        one = arms.pop()
+        lines.append(one[:0:-1] + arms.pop() if arms and (rng.random() < by_two or len(lines) > 200) else one[::rng.choice([1, -1])])
+    return lines
+
+
+def many_odd_stars(rng, least=22, most=120):
+    """Arms about one hub, of one length, of a few lengths, a step apart or any, straight or bent."""
+    hub, count = spot(rng, 20 * STEP), how_many(rng, least, most)
+    tips = arms_about(rng, hub, count, rng.choice(["equal", "few lengths", "a step apart", "any"]))
+    lines = star_lines(rng, hub, tips, rng.choice([0, 0, 1, 3]) if count < 200 else 0)
+    if rng.random() < 0.2:
+        # Ways from tip to tip.
+        lines.append(rng.sample(tips, rng.randint(2, 6)))
+    return many_odd(rng, lines, largest=rng.choice([60, None]))
+
+
+def level_star(rng, count, knees, reach=9000):
+    """A star in which two arms are so long that both pairings leave them out. Whatever the pairs, all other arms are gone over once, so that
+    the two costs differ by their roundings alone."""
+    tips = places(rng, count - 2, reach, but=[(0, 0)])
+    far = [(9 * reach + rng.randrange(999), rng.randrange(999)), (-9 * reach - rng.randrange(999), rng.randrange(999))]
+    return star_lines(rng, (0, 0), tips + far, knees)
+
+
+def turned_star(rng, count, steps, reach=900):
+    """A star whose arms make the same few steps, each in any order and turned in any way: ways from tip to tip that share no step have one
+    length, and are told apart by how their sums round, from the one end and from the other."""
+    vectors = places(rng, steps, reach, but=[(0, 0)])
+    turned = lambda v: tuple(s * c for s, c in zip(rng.choice([(1, 1), (1, -1), (-1, 1), (-1, -1)]), v[::rng.choice([1, -1])]))
+    arms = {}
+    while len(arms) < count:
+        arm = [(0, 0)]
+        for dx, dy in map(turned, rng.sample(vectors, steps)):
+            arm.append((arm[-1][0] + dx, arm[-1][1] + dy))
+        arms[arm[-1]] = arm[::rng.choice([1, -1])]
+    lines = list(arms.values())
+    rng.shuffle(lines)
+    return lines
+
+
+def many_odd_turned(rng):
+    """Stars whose arms make the same steps in another order: nearly every distance is the same but for the last bits."""
+    count = 2 * rng.choice([11, 11, 11, 12, rng.randint(11, 20), rng.randint(11, 40)])
+    return many_odd(rng, turned_star(rng, count, rng.choice([3, 3, 4, 5])), largest=rng.choice([9, None]))
+
+
+def many_odd_rounded(rng):
+    """Stars whose two pairings cost the same but for the last bits, by the order of the sums and the end that a distance runs from."""
+    count = 2 * rng.choice([11, 11, 11, 12, 13, rng.randint(11, 20), rng.randint(11, 40)])
+    return many_odd(rng, level_star(rng, count, rng.choice([0, 1, 1, 2, 3]), rng.choice([9, 90, 9000, 100 * STEP])), largest=rng.choice([60, None]))
+
+
+def many_odd_hubs(rng, least=22, most=110):
+    """Two to six hubs in a row or a ring; a tip stands beside one of another hub, near by eye and far along the lines."""
+    hubs, count, apart = rng.randint(2, 6), how_many(rng, least, most), rng.choice([40, 3000, 90 * STEP])
+    middles = [(k * apart, rng.randint(-3, 3)) for k in range(hubs)]
+    lines = [middles if rng.random() < 0.5 or hubs == 2 else middles + middles[:1]]
+    for k in range(count // 2):
+        x, y = spot(rng, 4 * apart)
+        one, other = rng.sample(middles, 2)
+        lines += [[one, (x, y)], [other, (x + rng.randint(1, 3), y + rng.randint(-2, 2))]]
+    rng.shuffle(lines)
+    return many_odd(rng, lines, largest=rng.choice([60, None]))
+
+
+def many_odd_lattices(rng, least=3, most=14):
+    """Rows and columns that cross in shared points, even or not, with threads at knots and at the border."""
+    across, down = rng.randint(least, most), rng.randint(least + 1, most)
+    xs, ys = spread(rng, across, 0, 40 * STEP), spread(rng, down, 0, 40 * STEP)
+    lines = [[(x, y) for x in xs] for y in ys] + [[(x, y) for y in ys] for x in xs]
+    # Threads as long as the gaps or longer ones; their ends may meet other threads'.
+    reach = rng.choice([xs[1] - xs[0], 1, 3000])
+    for _ in range(rng.randint(0, 30)):
+        x, y = rng.choice(xs), rng.choice(ys)
+        lines.append([(x, y), (x + rng.choice([reach, -reach, 0]), y + rng.choice([reach, -reach]))])
+    rng.shuffle(lines)
+    return many_odd(rng, lines, largest=rng.choice([40, None]))
+
+
+def many_odd_trees(rng, least=30, most=140):
+    """Random trees on a small grid or anywhere, and some links between their places."""
+    count, unit = rng.randint(least, most), rng.choice([1, 700, STEP])
+    side = math.isqrt(count) + rng.randint(1, 4)
+    knots = [(x * unit, y * unit) for x, y in rng.sample([(x, y) for x in range(side) for y in range(side)], count)]
+    if rng.random() < 0.4:
+        knots = places(rng, count, rng.choice([5000, EDGE]))
+    # To any earlier one, or to a near one.
+    is_near = rng.random() < 0.6
+    earlier = lambda i: min(rng.sample(range(i), min(i, 6)), key=lambda j: math.dist(knots[i], knots[j])) if is_near else rng.randrange(i)
+    while True:
+        lines = trails(rng, [(knots[i], knots[earlier(i)]) for i in range(1, count)], 255)
+        if lines:
+            break
+    pairs = [rng.sample(knots, 2) for _ in range(rng.choice([0, 0, 1, 5, 20]))]
+    return many_odd(rng, *joined_anywhere(lines, pairs), largest=rng.choice([40, None]))
+
+
+def many_odd_even(rng, least=11, most=60):
+    """Spines with legs on one side or both, evenly spaced, and rings with rays: one length everywhere, so that all ties are met."""
+    count, gap, leg = rng.randint(least, most), rng.choice([1, 3, STEP]), rng.choice([1, 2, 3, 4])
+    way = rng.choice(["one side", "both sides", "by turns", "two spines"])
+    spine = [(k * gap, 0) for k in range(count)]
+    sides = dict([("one side", [(1,)]), ("both sides", [(1, -1)]), ("by turns", [(1,), (-1,)]), ("two spines", [(1,)])])[way]
+    legs = [[p, (p[0], s * leg * gap)] for k, p in enumerate(spine) for s in sides[k % len(sides)]]
+    if way == "two spines":
+        # Tips stand beside the other spine's, joined at one end.
+        height = 2 * leg * gap + rng.choice([1, gap])
+        legs += [[(x, height), (x, height - leg * gap)] for x, _ in spine]
+        spine = [(k * gap, height) for k in reversed(range(count))] + [(-gap, height), (-gap, 0)] + spine
+    turn = rng.choice([1, -1])
+    lines = [[p[::turn] for p in line] for line in [spine] + rng.sample(legs, len(legs))]
+    return many_odd(rng, lines[1:] + lines[:1] if rng.random() < 0.5 else lines, largest=rng.choice([40, None]))
+
+
+def many_odd_chains(rng, least=22, most=110):
+    """A row of places joined by one segment and by two, by turns: all are odd, and ways from both ends round otherwise. Straight, bent or in rows."""
+    count, gap = 2 * (how_many(rng, least, most) // 2), rng.choice([1, 7, 1000])
+    way = rng.choice(["even", "uneven", "bent", "bent", "nearly even", "nearly even", "in rows"])
+    row, at = [], (0, 0)
+    for k in range(count):
+        row.append(at)
+        step = gap if way == "even" else rng.randint(1, 9 * gap)
+        if way == "bent":
+            at = (at[0] + step, rng.randint(-5 * gap, 5 * gap))
+        elif way == "nearly even":
+            at = (at[0] + (90 if gap < 1000 else 30) * gap + rng.randint(-gap, gap), rng.randint(-9 * gap, 9 * gap))
+        elif way == "in rows":
+            at = ((k + 1) % 8 if (k + 1) // 8 % 2 == 0 else 7 - (k + 1) % 8) * gap, (k + 1) // 8 * gap + rng.choice([0, 0, 1])
+        else:
+            at = (at[0] + step, 0)
+    pieces = [(row[k], row[k + 1]) for k in range(count - 1) for _ in range(1 + k % 2)]
+    lines = None
+    while lines is None:
+        lines = trails(rng, pieces)
+    return many_odd(rng, lines, largest=rng.choice([40, None]))
+
+
+def many_odd_made(rng):
+    """Flag 4 with Optimal: dots and short lines, linked by the planner, most of them with more than 20 odd nodes."""
+    count, reach = rng.randint(20, 70), rng.choice([4, 9, 3000, EDGE])
+    unit = 1 if reach > 99 else rng.choice([1, 512])
+    place = lambda: tuple(v * unit for v in spot(rng, reach))
+    lines = [[place() for _ in range(rng.choice([1, 1, 2, 2, 3]))] for _ in range(count)]
+    settings = dict(linking(rng, rng.choice([9, None])), pairing=1)
+    return write(lines, **settings), rng.choice([FULL, FULL, FULL, dict(f64=140**2, byte=0), {}, dict(f64=22**2, byte=0)])
+
+
+def bridge(n, q, extra, flags):
+    """Two hubs with n segments between them, q arms at each and a closed line of `extra` segments. Each arm is longer than the one
+    before by more than the bridge, so that both pairings take arms of the two hubs together: after k retraces the graph has n + 2 q +
+    extra + k (n + 2) edges."""
+    arms = [[(x, 0), (x, k * (n + 9))] for k in range(1, q + 1) for x in (0, n)]
+    ring = [[(0, 0)] + [(-9, -k) for k in range(1, extra)] + [(0, 0)]] if extra else []
+    return write([[(x, 0) for x in range(n + 1)]] + arms + ring, flags=flags, pairing=1)
+
+
+def near_4000(rng):
+    """Bridges with 22 odd nodes or more that come near 4,000 edges, meet it exactly or pass it."""
+    q, flags = rng.choice([11, 11, 13]), rng.randrange(4)
+    retraces = q - 1 + (flags & 1)
+    n = (4000 - 2 * q - 2 * retraces) // (retraces + 1) - rng.choice([0, 0, 1, -1, -40])
+    extra = 4000 - (n + 2 * q + retraces * (n + 2)) + rng.choice([0, 0, 1, 1, -1])
+    return bridge(n, q, extra if extra >= 2 else 0, flags), 2 * q
+
+
+def many_odd_tables(rng):
+    """18 to 26 odd nodes with tables exact, short and of other sizes, and 9, 11, 13 and 14 beside each other."""
+    n = rng.choice([18, 20, 20, 22, 22, 22, 22, 24, 26])
+    if rng.random() < 0.1:
+        file, n = near_4000(rng)
+    else:
+        lines = star_lines(rng, (0, 0), places(rng, n, 900, but=[(0, 0)]), 0)
+        lines += [[(STEP, STEP)]] * (rng.random() < 0.1)
+        file = write(lines, **dict(any_settings(rng), pairing=1))
+    floats = rng.choice([n * n] * 5 + [n * n - 1] * 3 + [n * n + 1, 0, 1, 4 * n, 20 * 20, d.PLAN_F64, 2**20 + 400])
+    if n <= 20:
+        floats = rng.choice([2**n + n * n, 2**n + n * n, 2**n + n * n - 1, n * n, 2**n, 0])
+    lent = dict(f64=floats, byte=rng.choice([0, 0, 0, 1, 2**12] if n > 20 else [2**n, 2**n, 2**n - 1, 0]))
+    return file, lent if rng.random() < 0.7 else dict(lent, output=rng.choice([0, 5, 6, 6 + 16 * n, 6 + 16 * (3 * n - 2), 6 + 16 * 3 * n]))
+
+
+def many_odd_hundreds(rng):
+    """The same with 120 to some 500 odd nodes."""
+    make = rng.choice([lambda: many_odd(rng, wall(rng)), lambda: many_odd(rng, net(rng, 260, 220)), lambda: many_odd(rng, *toothed(rng, rng.randint(31, 126))),
+                       lambda: many_odd_stars(rng, rng.choice([120, 200, 350]), 500), lambda: many_odd_hubs(rng, 120, 250),
+                       lambda: many_odd_lattices(rng, 12, 20), lambda: many_odd_trees(rng, 200, 330), lambda: many_odd_even(rng, 60, 120),
+                       lambda: many_odd_chains(rng, 120, 300)])
+    return make()
+
+
+def caterpillar(rng, spine):
+    """A spine of 511 places and a leg at each but its ends, by lines and by links: 1,020 odd nodes."""
+    reach = rng.choice([1, 3, 5000])
+    legs = [((x, y), (clamp(x + rng.randint(-reach, reach)), clamp(y + rng.choice([reach, 2 * reach])))) for x, y in spine[1:-1]]
+    rng.shuffle(legs)
+    return joined_anywhere([spine] + [list(leg) for leg in legs[:254]], legs[254:])
+
+
+def many_odd_most(rng):
+    """As many odd nodes as a file can have, 1,022, or nearly: combs and caterpillars, and a hub with 765 arms, open and closed."""
+    way = rng.randrange(4)
+    if way == 0:
+        return many_odd(rng, *toothed(rng, 256, rng.random() < 0.7))
+    if way == 3:
+        # Rays by two in a line, and links as rays.
+        hub, *tips = places(rng, 766, EDGE)
+        lines = [[a, hub, b] for a, b in zip(tips[:510:2], tips[1:510:2])]
+        return many_odd(rng, *joined_anywhere(lines, [(hub, tip) for tip in tips[510:]]))
+    gap = rng.choice([8, 2 * STEP])
+    rows = [((k % 23 if k // 23 % 2 == 0 else 22 - k % 23) * gap, k // 23 * gap) for k in range(511)]
+    return many_odd(rng, *caterpillar(rng, rows if way == 1 else [(k * gap - EDGE, rng.randint(-gap, gap)) for k in range(511)]))
+
+
 KINDS = {f.__name__: f for f in (tiny, walks, lattice, honeycomb, lace, comb, cube, near, overlap, zero, links, dots, empty, pieces,
                                  limits, edges, optimal, flags, output, damaged, big)}
 # Of change request 1.
@@ -1253,11 +1555,17 @@ MINUS_ZERO_KINDS = {f.__name__: f for f in (minus_zero_lines, minus_zero_links, 
                                             minus_zero_closed, minus_zero_made, minus_zero_refused, minus_zero_older)}
 # Of change request 4.
 BUSY_KINDS = {f.__name__: f for f in (busy_node, busy_links, busy_pair, busy_retraces, staying, staying_made, many_edges, many_visits)}
-KINDS |= LINKING_KINDS | MINUS_ZERO_KINDS | BUSY_KINDS
+# Of change request 5.
+MANY_ODD_KINDS = {f.__name__: f for f in (many_odd_nets, many_odd_combs, many_odd_stars, many_odd_rounded, many_odd_turned, many_odd_hubs, many_odd_lattices,
+                                          many_odd_trees, many_odd_even, many_odd_chains, many_odd_made, many_odd_tables,
+                                          many_odd_hundreds, many_odd_most)}
+KINDS |= LINKING_KINDS | MINUS_ZERO_KINDS | BUSY_KINDS | MANY_ODD_KINDS
 
 # The part of COUNT that is made of the kinds that take long to make or to plan, where a run has many drawings.
 SHARE = dict(comb=1 / 100, big=1 / 100, made_many=1 / 100, made_long=1 / 50, honeycomb=1 / 20, near=1 / 5, lace=1 / 4, edges=1 / 4,
-             optimal=1 / 2, busy_retraces=1 / 10)
+             optimal=1 / 2, busy_retraces=1 / 10, **dict.fromkeys(["many_odd_nets", "many_odd_combs", "many_odd_stars", "many_odd_hubs",
+                                                                   "many_odd_lattices", "many_odd_trees", "many_odd_made"], 1 / 2),
+             many_odd_hundreds=1 / 20, many_odd_most=1 / 150)
 
 
 def main():

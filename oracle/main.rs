@@ -8,6 +8,7 @@ mod geo;
 mod handed;
 mod hypot;
 mod links;
+mod pairings;
 mod reader;
 mod writer;
 #[cfg(planner)]
@@ -176,9 +177,9 @@ fn batched(file: &[u8], lent: Lent) -> Vec<u8> {
     head.into_iter().flat_map(|n| (n as u32).to_le_bytes()).chain(file.iter().copied()).collect()
 }
 
-const USAGE: &str = "usage: oracle [--f64 N] [--bytes N] [--output N] [--counts | --degrees | --inside]   < one drawing
+const USAGE: &str = "usage: oracle [--f64 N] [--bytes N] [--output N] [--counts | --degrees | --inside | --pairings]   < one drawing
        oracle --links | --linked | --cleaned                              < one drawing
-       oracle --batch [--line | --counts | --degrees | --inside]          < drawings in batch form
+       oracle --batch [--line | --counts | --degrees | --inside | --pairings]   < drawings in batch form
        oracle --batch --links | --linked                                  < drawings in batch form
        oracle --batch --cleaned                                           < drawings in batch form
        oracle --batch --read                                              < drawings in batch form
@@ -234,6 +235,7 @@ enum Shown {
     Counts,
     Degrees,
     Inside,
+    Pairings,
     Read,
     Links,
     #[cfg(made)]
@@ -250,6 +252,7 @@ fn shown(what: Shown, file: &[u8], lent: Lent, is_batch: bool) -> Vec<u8> {
         Shown::Counts => (counts(file, lent) + "\n").into_bytes(),
         Shown::Degrees => (degrees(file, lent) + "\n").into_bytes(),
         Shown::Inside => (inside(file, lent) + "\n").into_bytes(),
+        Shown::Pairings => (pairings::row(&stand_in::pairings(file)) + "\n").into_bytes(),
         Shown::Read => format!("{}\n", reader::read(file).err().unwrap_or(0)).into_bytes(),
         Shown::Links => rows(made_links(file)).into_bytes(),
         #[cfg(made)]
@@ -276,6 +279,7 @@ fn main() {
             "--counts" => what = Shown::Counts,
             "--degrees" => what = Shown::Degrees,
             "--inside" => what = Shown::Inside,
+            "--pairings" => what = Shown::Pairings,
             "--read" => what = Shown::Read,
             "--links" => what = Shown::Links,
             #[cfg(made)]

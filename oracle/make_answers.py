@@ -116,8 +116,6 @@ def by_hand():
     yield "optimal: star of 22", d.drawing(star(22), pairing=1), dict(f64=2**23, byte=2**23)
     yield "optimal: star of 14 in plan's tables", d.drawing(star(14), pairing=1)
     yield "optimal: cross, 15 bytes", d.drawing(CROSS, pairing=1), dict(f64=32, byte=15)
-    yield "order: 22 odd nodes and no tables: 10 before 11", d.drawing(star(22), pairing=1), dict(f64=0, byte=0)
-    yield "order: apart and 22 odd nodes: 9 before 10", d.drawing(star(22) + [[(50, 50)]], pairing=1)
     off_grid = d.link(0, 0, g.OFF_GRID, 0, 0, (1, 0))
     yield "order: settings twice, the second of 9 bytes: 3 before 4", d.settings() + d.record(1, bytes(9))
     yield "order: a line of 15 bytes behind a link: 3 before 4", d.settings() + off_grid + d.record(2, bytes(15))
@@ -344,7 +342,8 @@ def minus_zero_refused():
     yield "minus zero: two dots apart: 9", d.drawing([[(M, 0)], [(5, 5)]])
     yield "minus zero: a link from it to a place that nothing else has: 9", d.drawing([[(0, 0)], [(1, 1)]], [(0, 0, (0, 2), 0, 0, (M, 2))])
     rays = [[(M if k % 2 else 0, M if k % 3 else 0), ray[1]] for k, ray in enumerate(star(22))]
-    yield "minus zero: 22 rays, Optimal: 10", d.drawing(rays, pairing=1)
+    yield "minus zero: 22 rays, Optimal", d.drawing(rays, pairing=1)
+    yield "minus zero: 22 rays, Optimal, an f64 short: 11", d.drawing(rays, pairing=1), dict(f64=483, byte=0)
     yield "minus zero: four rays, Optimal, tables exact", d.drawing(rays[:4], pairing=1), dict(f64=32, byte=16)
     yield "minus zero: four rays, Optimal, an f64 short: 11", d.drawing(rays[:4], pairing=1), dict(f64=31, byte=16)
     for more, ends in ((0, ", output exact"), (-1, ", a byte short: 14")):
@@ -401,6 +400,97 @@ def staying():
     yield "staying: two dots on one node, flags 4", d.drawing([[(3, 3)], [(3, 3), (8, 8)], [(3, 3)] * 2], flags=g.LINK)
 
 
+# Drawings of the generator that a rule which is nearly right would pair otherwise: kind and number with seed 1, the rule, and what is right.
+# `oracle/pairings.py ORACLE 1 2000 --find RULE KIND` has found them.
+TELLING = [
+    ("many_odd_rounded", 292, "graph-on-a-tie", "one cost, other pairs: the Euclidean ones stay"),
+    ("many_odd_stars", 153, "graph-on-a-tie", "one cost, other pairs, by arms of a few lengths"),
+    ("many_odd_chains", 257, "only-graph", "the Euclidean pairs cost less"),
+    ("many_odd_even", 332, "only-graph", "the Euclidean pairs cost less, one length everywhere"),
+    ("many_odd_chains", 574, "only-euclidean", "the pairs by graph distance cost less"),
+    ("many_odd_trees", 497, "only-euclidean", "the pairs by graph distance cost less, on a tree"),
+    ("many_odd_even", 174, "only-euclidean", "the pairs by graph distance cost less, one length everywhere"),
+    ("many_odd_lattices", 211, "only-euclidean", "the pairs by graph distance cost less, on a lattice"),
+    ("many_odd_rounded", 775, "cost-from-the-last-pair", "costs are added from the first pair on, and the Euclidean one is the smaller"),
+    ("many_odd_stars", 675, "cost-from-the-last-pair", "costs are added from the first pair on, and the other is the smaller"),
+    ("many_odd_rounded", 782, "cost-from-the-second", "a pair costs the distance from its first node, Euclidean pairs"),
+    ("many_odd_rounded", 130, "cost-from-the-second", "a pair costs the distance from its first node, pairs by graph distance"),
+    ("many_odd_rounded", 419, "cost-from-the-lower", "a pair costs the distance from its first node, not from its lower one"),
+    ("many_odd_rounded", 839, "cost-from-the-lower", "the same, Euclidean pairs"),
+    ("many_odd_rounded", 1220, "cost-from-the-nearer", "a pair costs the distance from its first node, not the smaller one"),
+    ("many_odd_stars", 287, "greedy-from-the-second", "the working list: the distance from the node that stands first"),
+    ("many_odd_stars", 32, "greedy-from-the-lower", "the working list: from the node that stands first, not from the lower one"),
+    ("many_odd_stars", 722, "greedy-from-the-lower", "the same, with 26 odd nodes"),
+    ("many_odd_turned", 127, "greedy-from-the-nearer", "the working list: from the node that stands first, not the smaller one"),
+    ("many_odd_chains", 850, "greedy-last-on-ties", "the working list: first on ties"),
+    ("many_odd_chains", 692, "greedy-in-list-order", "the working list: the last one takes the place of one that goes"),
+    ("many_odd_trees", 330, "greedy-in-list-order", "the same, on a tree"),
+]
+
+
+def telling():
+    numbers = {}
+    for kind, number, *_ in TELLING:
+        numbers[kind] = max(number, numbers.get(kind, 0))
+    made = {}
+    for kind, last in numbers.items():
+        rng = random.Random(f"{kind} 1")
+        made[kind] = [g.KINDS[kind](rng)[0] for _ in range(last + 1)]
+    for kind, number, _, what in TELLING:
+        yield f"many odd: {what}, {kind} {number}", made[kind][number]
+
+
+def with_many_odd():
+    """Drawings with Optimal about and above 20 odd nodes: the tables, the order of the checks, the two pairings and the choice."""
+    many = lambda lines, **settings: d.drawing(lines, **dict(dict(pairing=1), **settings))
+    rays = many(star(22))
+    for name, lent in [("n^2 floats and no bytes", dict(f64=484, byte=0)), ("a float short: 11", dict(f64=483, byte=0)),
+                       ("a float short and all bytes: 11", dict(f64=483, byte=2**20)), ("a float more, one byte", dict(f64=485, byte=1)),
+                       ("no floats: 11", dict(f64=0, byte=0)), ("20^2 floats: 11", dict(f64=400, byte=0)),
+                       ("half of n^2 floats: 11", dict(f64=242, byte=0)), ("n (n - 1) floats: 11", dict(f64=462, byte=0))]:
+        yield f"many odd: 22 rays, {name}", rays, lent
+    for name, lent in [("n^2 floats and no bytes: 11", dict(f64=400, byte=0)), ("n^2 floats and 2^n bytes: 11", dict(f64=400, byte=2**20)),
+                       ("2^n + n^2 floats and no bytes: 11", dict(f64=2**20 + 400, byte=0))]:
+        yield f"many odd: 20 rays, {name}", many(star(20)), lent
+    # Rays by two in a line, which the program's own tables are enough for up to 64 odd nodes.
+    tips = g.round_places()
+    by_two = lambda count, **settings: g.write([[a, (0, 0), b] for a, b in zip(tips[:count:2], tips[1:count:2])], **dict(dict(pairing=1), **settings))
+    yield "many odd: 64 arms of one length in plan's tables", by_two(64)
+    yield "many odd: 66 arms of one length in plan's tables: 11", by_two(66)
+    yield "many odd: 66 arms of one length, n^2 floats", by_two(66), dict(f64=66**2, byte=0)
+    # In this order Greedy and the pairs by graph distance differ, and cost the same.
+    for flags in range(4):
+        yield f"many odd: 22 arms of one length, flags {flags}", by_two(22, flags=flags)
+    yield "many odd: 22 arms of one length, Greedy", by_two(22, pairing=0)
+    for flags in range(1, 4):
+        yield f"many odd: 22 rays, flags {flags}", many(star(22), flags=flags)
+    # Tips of two hubs beside each other.
+    pairs = [[(0, 0), (40, 0)]] + [line for k in range(11) for line in ([(0, 0), (3 * k, 20)], [(40, 0), (3 * k + 1, 20)])]
+    for flags in range(4):
+        yield f"many odd: two hubs, near by eye and far along the lines, flags {flags}", many(pairs, flags=flags)
+    yield "many odd: two hubs, Greedy", d.drawing(pairs)
+    spine = [[(2 * k, 0) for k in range(13)]]
+    yield "many odd: a spine with legs as long as its gaps", many(spine + [[(2 * k, 0), (2 * k, 2)] for k in range(1, 12)])
+    yield "many odd: a spine with longer legs, closing", many(spine + [[(2 * k, 0), (2 * k, 3)] for k in range(1, 12)], flags=1)
+    yield "many odd: a spine with legs on both sides", many(spine + [[(2 * k, -3), (2 * k, 0), (2 * k, 3)] for k in range(1, 12)])
+    lattice = [[(x, y) for x in range(8)] for y in range(8)] + [[(x, y) for y in range(8)] for x in range(8)]
+    yield "many odd: a lattice of 8 by 8", many(lattice)
+    yield "many odd: a lattice of 8 by 8, closing, Inside", many(lattice, flags=3)
+    for flags in (4, 7):
+        yield f"many odd: 26 dots in two uneven rows, flags {flags}", many([[(5 * x + y * x % 3, 4 * y)] for y in range(2) for x in range(13)], flags=flags)
+    yield from telling()
+    yield "order: apart, 22 odd nodes and no tables: 9 before 11", many(star(22) + [[(50, 50)]]), dict(f64=0, byte=0)
+    yield "order: apart, 22 odd nodes, a float short and no output: 9 before 11 and 14", many(star(22) + [[(50, 50)]]), dict(f64=483, byte=0, output=0)
+    yield "order: 22 odd nodes, a float short and no output: 11 before 14", rays, dict(f64=483, byte=0, output=0)
+    yield "order: 22 odd nodes, no output: 14", rays, dict(f64=484, byte=0, output=0)
+    # 359 segments between two hubs, 11 arms at each, ten retraces.
+    past = g.bridge(359, 11, 10, 0)
+    yield "order: 22 odd nodes, 4,001 edges and a float short: 11 before 13", past, dict(f64=483, byte=0)
+    yield "order: 22 odd nodes, 4,001 edges: 13", past, dict(f64=484, byte=0)
+    yield "order: 22 odd nodes, 4,001 edges and no output: 13 before 14", past, dict(f64=484, byte=0, output=0)
+    yield "many odd: 22 odd nodes, exactly 4,000 edges", g.bridge(359, 11, 9, 0), dict(f64=484, byte=0)
+
+
 # Cases of number 15 that tell no more than another one of the list, or that are long.
 SPARED_OWN = ["no link, flags [0-35-8]", "a link, flags [1-3]", ".* and (256|257) lines", ".* 1,02[45] points", "255 links, flags 0",
               "255 links, the last", "256 links, .*flags 0", "no link and (height|flags)", "two links and height",
@@ -431,7 +521,7 @@ def generated():
 
 
 def main():
-    makers = from_samples, from_limits, by_hand, generated, with_flag_4, from_own_links, with_minus_zeros, with_busy_nodes
+    makers = from_samples, from_limits, by_hand, generated, with_flag_4, from_own_links, with_minus_zeros, with_busy_nodes, with_many_odd
     cases = [(name, file, *(lent or [{}])) for make in makers for name, file, *lent in make()]
     lent = [dict(dict(f64=d.PLAN_F64, byte=d.PLAN_BYTES, output=d.PLAN_OUTPUT), **lent) for _, _, lent in cases]
     batch = b"".join(d.batched(file, **sizes) for (_, file, _), sizes in zip(cases, lent))

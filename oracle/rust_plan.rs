@@ -6,6 +6,7 @@
 use crate::petgraph::algo::dijkstra;
 use crate::petgraph::graph::{NodeIndex, UnGraph};
 use crate::petgraph::visit::EdgeRef;
+use crate::pairings::Pairings;
 use crate::{departure, geo, links, petgraph, reader, Lent};
 
 include!("published.rs");
@@ -40,11 +41,8 @@ pub fn plan(file: &[u8], lent: Lent) -> Result<Plan, u32> {
         return Err(9);
     }
     if drawing.optimal {
-        let n = odd_degree_vertices(&graph).len();
-        if n > DP_THRESHOLD {
-            return Err(10);
-        }
-        if n >= 4 && (lent.f64_entries < (1 << n) + n * n || lent.byte_entries < 1 << n) {
+        let (floats, bytes) = entries_asked(odd_degree_vertices(&graph).len());
+        if lent.f64_entries < floats || lent.byte_entries < bytes {
             return Err(11);
         }
     }
@@ -55,6 +53,43 @@ pub fn plan(file: &[u8], lent: Lent) -> Result<Plan, u32> {
         return Err(14);
     }
     Ok(Plan { retrace, odd_before, odd_after, points, edges_drawn, graph })
+}
+
+/// The entries of the f64 table and of the byte table that check 11 asks for where Optimal was chosen with n odd nodes. Above
+/// 20 they are change request 5's: the floats hold a distance for each two odd nodes, and no byte is used.
+pub fn entries_asked(n: usize) -> (usize, usize) {
+    if n < 4 {
+        (0, 0)
+    } else if n <= DP_THRESHOLD {
+        ((1 << n) + n * n, 1 << n)
+    } else {
+        (n * n, 0)
+    }
+}
+
+/// How many odd nodes a drawing has, 0 where its file is refused.
+pub fn odd_count(file: &[u8]) -> usize {
+    links::drawing_of(file).map_or(0, |drawing| odd_degree_vertices(&graph_of(&drawing).0).len())
+}
+
+/// What `optimal_matching` chooses from where there are more than 20 odd nodes, by the places of the nodes among the odd ones.
+pub fn pairings(file: &[u8]) -> Result<Pairings, u32> {
+    let drawing = links::drawing_of(file)?;
+    let (graph, node_coords) = graph_of(&drawing);
+    all_reached_from_first(&graph).then_some(()).ok_or(9u32)?;
+    let odd = odd_degree_vertices(&graph);
+    let distances = all_pairs_graph_distances(&graph, &odd);
+    let places = |pairs: Vec<(NodeIndex, NodeIndex)>| {
+        let place = |node| odd.iter().position(|&n| n == node).expect("an odd node");
+        pairs.into_iter().map(|(a, b)| (place(a), place(b))).collect::<Vec<_>>()
+    };
+    let costs = |pairs: &[(NodeIndex, NodeIndex)]| matching_graph_cost(pairs, &odd, &distances);
+    let euclidean = greedy_euclidean_matching(&odd, &node_coords);
+    let by_graph = greedy_graph_distance_matching(&odd, &distances, &node_coords);
+    let costs = [costs(&euclidean), costs(&by_graph)];
+    let is_many = odd.len() > DP_THRESHOLD;
+    let taken = if is_many { places(optimal_matching(&graph, &odd, &node_coords).expect("pairs")) } else { Vec::new() };
+    Ok(Pairings { euclidean: places(euclidean), by_graph: places(by_graph), costs, taken, distances })
 }
 
 fn graph_of(drawing: &reader::Drawing) -> (UnGraph<(), f64>, Vec<geo::Coord<f64>>) {
@@ -106,7 +141,7 @@ pub fn phase_ends(file: &[u8], now: fn() -> f64) -> Vec<f64> {
     let is_whole = all_reached_from_first(&graph);
     let odd = odd_degree_vertices(&graph);
     ends.push(now());
-    if !is_whole || drawing.optimal && odd.len() > DP_THRESHOLD {
+    if !is_whole {
         return ends;
     }
     let mut pairs = match odd.len() {

@@ -6,8 +6,9 @@ nodes in places that are bad for Greedy.
 """
 import math
 import random
+import struct
 
-from generate import EDGE, write
+from generate import EDGE, odd_places, write
 
 SIDES = dict(width=640, height=480)
 
@@ -225,6 +226,44 @@ def full(rng, flags=1, reach=1024 * 60):
             ends += [i, s, (round(ax + (bx - ax) * part), round(ay + (by - ay) * part))]
         links.append(tuple(ends))
     return write(lines, links, flags=flags, **SIDES)
+
+
+# ---- Optimal above 20 odd nodes. ----
+
+def with_optimal(file):
+    return file[:14] + b"\1" + file[15:]
+
+
+def odd_count(file):
+    """The odd nodes of a file that carries its links."""
+    lines, links, at = [], [], 0
+    while at < len(file):
+        length, kind = struct.unpack_from("<IH", file, at)
+        numbers = struct.unpack_from(f"<{length // 8}d", file, at + 6) if kind != 1 else ()
+        points = list(zip(numbers[::2], numbers[1::2]))
+        if kind == 2:
+            lines.append(points)
+        elif kind == 3:
+            # Four line and segment numbers, which are eight bytes, stand before the ends.
+            links.append((0, 0, numbers[1:3], 0, 0, numbers[3:5]))
+        at += 6 + length
+    return len(odd_places(lines, links))
+
+
+def many_odd():
+    """Name and file. Each two odd nodes are asked for their distance, and both pairings look at all of them again and again."""
+    rng = lambda name: random.Random("slow " + name)
+    yield "hub, 510 arms", star(rng("1"))
+    yield "hub, 510 equal arms", star(rng("3"), spread=0)
+    yield "hub, 765 arms", wide_star(rng("6"), core=0)
+    yield "hub, 1,020 odd nodes", wide_star(rng("9"), split=True)
+    yield "hub, 1,020 odd nodes, closed", wide_star(rng("10"), split=True, flags=1)
+    yield "far pairs, two hubs", two_hubs(rng("11"))
+    for make in (about_a_cluster, growing, on_a_lattice, uniform, rings):
+        name = make.__name__.replace("_", " ")
+        yield f"caterpillar, {name}", caterpillar(make(rng(name)))
+    for k in range(2):
+        yield f"all limits full, {k}", full(rng(f"full {k}"), flags=k)
 
 
 def cases():

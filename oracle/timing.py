@@ -1,7 +1,8 @@
 #!/usr/bin/env python3
 """Times the planner that is linked into the oracle beside the published one, as tables for docs/PERFORMANCE.md.
 
-usage: oracle/timing.py ORACLE TABLE ...       TABLE is goals, slow, growth, small, phases, walk, found, links, stack or saved
+usage: oracle/timing.py ORACLE TABLE ...       TABLE is goals, slow, growth, small, phases, walk, found, links, many-odd,
+                                               stack or saved
        oracle/timing.py --programs PLAN RUST   the programs as a person runs them
        oracle/timing.py --write FOLDER         the drawings of all tables as files, for other planners
 
@@ -33,6 +34,11 @@ from samples import CROSS
 def tables(odd):
     """Work tables for so many odd nodes."""
     return dict(f64=2**odd + odd**2, byte=2**odd)
+
+
+def pair_tables(file):
+    """A float for each two odd nodes, which Optimal asks for above 20 of them."""
+    return dict(f64=slow.odd_count(file)**2, byte=0)
 
 
 def line(count, flags=0):
@@ -123,7 +129,24 @@ def found():
     for kind in ("walks", "lattice", "honeycomb", "lace", "comb", "edges", "big"):
         rng = random.Random(f"timing {kind}")
         drawings = [g.KINDS[kind](rng)[0] for _ in range(12)]
-        yield from ((f"{kind} {k}", file, {}) for k, file in enumerate(drawings) if len(file) >= 1600)
+        yield from ((f"{kind} {k}", file, enough(file)) for k, file in enumerate(drawings) if len(file) >= 1600)
+
+
+def enough(file):
+    """What `plan` lends, but floats for all pairs where Optimal has so many odd nodes that these are more."""
+    is_many = file[14] == 1 and slow.odd_count(file)**2 > d.PLAN_F64
+    return pair_tables(file) if is_many else {}
+
+
+# Change request 5: Optimal above 20 odd nodes, with just the floats that it asks for.
+def many_odd():
+    rows = [("22 odd nodes", rays(22)), ("64 odd nodes, the most in what `plan` lends", rays(64))]
+    rows += [(f"comb, {4 * count - 2:,} odd nodes", slow.with_optimal(teeth(count))) for count in (16, 32, 64, 128, 256)]
+    rows += [("lace", g.write(lace(), pairing=1)), ("lace, closed", g.write(lace(), pairing=1, flags=1)),
+             ("1,534 nodes, 512 odd, closed", slow.with_optimal(largest()))]
+    rows += [(name, slow.with_optimal(file)) for name, file in slow.many_odd()]
+    for name, file in rows:
+        yield name, file, {} if "`plan`" in name else pair_tables(file)
 
 
 # For issues 8 and 9: what each phase takes.
@@ -134,6 +157,8 @@ def phases():
               "far pairs, two hubs")
     yield from (row for row in slow_ones() if row[0] in wanted)
     yield from (row[:3] for row in list(goals())[4:])
+    wanted = ("lace, closed", "comb, 1,022 odd nodes")
+    yield from ((f"{name}, Optimal", file, lent) for name, file, lent in many_odd() if name in wanted)
 
 
 # A line that repair lengthens to so many edges.
@@ -142,13 +167,13 @@ def walk():
         yield f"{edges:,} edges", g.hairpin((edges - 12) // 4, 3, 0, 1), {}
 
 
-# Drawings with flag 4. With Optimal the larger ones are refused with 10 as soon as the graph is there, or have two odd nodes
-# at most, so that little but the making is in their times.
+# Drawings with flag 4. With Optimal and no tables they are refused with 11 as soon as the graph is there, or have two odd nodes
+# at most, so that little but the making is in their times. (Before change request 5 most of them were refused with 10 there.)
 def links():
     for shape in ("dots", "long lines", "one place", "circle"):
         for count in (256,) if shape != "dots" else (32, 64, 128, 256):
             lines = g.many(random.Random(f"timing {shape}"), shape, count)
-            yield f"{count} lines, {shape}, Optimal", g.write(lines, pairing=1, flags=g.LINK), {}
+            yield f"{count} lines, {shape}, Optimal", g.write(lines, pairing=1, flags=g.LINK), dict(f64=0, byte=0)
     for shape in ("dots", "long lines"):
         yield f"256 lines, {shape}, Greedy", g.write(g.many(random.Random(f"timing {shape}"), shape), flags=g.LINK), {}
     yield "three letters", d.drawing([[(0, 0), (0, 6), (3, 6)], [(6, 0), (6, 6)], [(9, 0), (11, 6), (13, 0)]], flags=g.LINK), {}
@@ -340,7 +365,8 @@ def print_programs(plan, rust):
         print_row(name, [micro(port), micro(other), ratio(port, other)], range(3))
 
 
-TABLES = dict(goals=goals, slow=slow_ones, growth=growth, small=small, phases=phases, walk=walk, found=found, links=links)
+TABLES = {"goals": goals, "slow": slow_ones, "growth": growth, "small": small, "phases": phases, "walk": walk, "found": found, "links": links,
+          "many-odd": many_odd}
 
 
 def main():

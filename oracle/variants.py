@@ -54,14 +54,31 @@ ALL_REACHED = """    if !all_reached_from_first(&graph) {
         return Err(9);
     }
 """
-MANY_ODD = """        if n > DP_THRESHOLD {
-            return Err(10);
-        }
-"""
-SHORT_TABLES = """        if n >= 4 && (lent.f64_entries < (1 << n) + n * n || lent.byte_entries < 1 << n) {
+SHORT_TABLES = """    if drawing.optimal {
+        let (floats, bytes) = entries_asked(odd_degree_vertices(&graph).len());
+        if lent.f64_entries < floats || lent.byte_entries < bytes {
             return Err(11);
         }
+    }
 """
+# The same when the graph is repaired.
+SHORT_TABLES_LATER = SHORT_TABLES.replace("odd_degree_vertices(&graph).len()", "odd_before")
+MANY_REFUSED = """    if drawing.optimal && odd_degree_vertices(&graph).len() > DP_THRESHOLD {
+        return Err(10);
+    }
+"""
+LINE_MADE = "    let points = line_of("
+ACCEPTED = "    Ok(Plan { retrace,"
+# Above 20 odd nodes: what check 11 asks, the choice, the cost of a pair, and the costs of both pairings.
+ASKED_MANY = "(n * n, 0)"
+CHOSEN = "euclidean_cost <= graph_dist_cost"
+PAIR_COST = "dist_matrix[ia][ib]"
+COSTED = "matching_graph_cost(&{}_pairs, odd, &dist_matrix)"
+STRAIGHT = """{}_pairs.iter().map(|&(a, b)| {{
+            let (p, q) = (node_coords[a.index()], node_coords[b.index()]);
+            (p.x - q.x).nearest_hypot(p.y - q.y)
+        }}).sum::<f64>()"""
+WORKING_PAIR = "pairs.push((odd[indices[best_ii]], odd[indices[best_jj]]));"
 BY_VIRTUAL = "circuit.iter().position(|&(_, by)| by == Some(v))"
 BY_ENDS = """|&(_, by)| by.is_some_and(|e| {
     let ((a, b), (c, d)) = (graph.edge_endpoints(e).unwrap(), graph.edge_endpoints(v).unwrap());
@@ -173,6 +190,39 @@ def marked_too(more):
     return marked("e", f"\n                let e = edge.id().index();\n                {more}\n                assert!(stack.len() + circuit.len() < 9000);")
 
 
+def chosen(by):
+    """Which pairs are kept above 20 odd nodes."""
+    return "fn optimal_matching(", (CHOSEN, by)
+
+
+def pair_cost(by):
+    return "fn matching_graph_cost(", (PAIR_COST, by)
+
+
+def summed(by):
+    """The cost by another sum; `costs` are those of the pairs in their order."""
+    return "fn matching_graph_cost(", ("    pairs\n", "    let costs: Vec<f64> = pairs\n"), (".sum()", f".collect();\n    {by}")
+
+
+def working(old, new):
+    """The pairs by graph distance."""
+    return "fn greedy_graph_distance_matching(", (old, new)
+
+
+def between(by):
+    """The distance that the working list's nodes i and j are compared by."""
+    return working("dist_matrix[i][j]", by)
+
+
+def asked_many(by):
+    return "rust_plan.rs", (ASKED_MANY, by)
+
+
+def distances(by):
+    """All distances, changed when they are there."""
+    return "fn all_pairs_graph_distances(", ("\n    dist", f"\n    for i in 0..n {{\n        for j in 0..i {{\n            {by}\n        }}\n    }}\n    dist")
+
+
 def side(name, by):
     return "fn image_center(", (f"f64::from(dims.{name}) / 2.0", by)
 
@@ -244,17 +294,100 @@ VERSIONS = {
     "15 from two links on": ("reader.rs", ("    if link && !link_bodies.is_empty()", "    if link && link_bodies.len() > 1")),
     "7 before 6": ("reader.rs", (COUNTS_CHECKED, ""), (GRID_CHECKED, GRID_CHECKED + COUNTS_CHECKED)),
     "8 before 7": ("reader.rs", (GRID_CHECKED, ""), (LINKS_CHECKED, LINKS_CHECKED + GRID_CHECKED)),
-    "10 before 9": ("rust_plan.rs", (ALL_REACHED, ""), (MANY_ODD, MANY_ODD + ALL_REACHED),
-                    ("    let (retrace, odd_before", ALL_REACHED + "    let (retrace, odd_before")),
-    "11 before 10": ("rust_plan.rs", (MANY_ODD, ""), (SHORT_TABLES, SHORT_TABLES + MANY_ODD)),
-    "check 10: from 20 odd nodes on": ("rust_plan.rs", ("n > DP_THRESHOLD", "n >= DP_THRESHOLD")),
-    "check 10: from 23 odd nodes on": ("rust_plan.rs", ("n > DP_THRESHOLD", "n > 22")),
-    "check 11: 2^n + 4 n entries": ("rust_plan.rs", ("n * n", "4 * n")),
-    "check 11: 2^n + n^2 - 1 entries": ("rust_plan.rs", ("n * n", "n * n - 1")),
-    "check 11: 2^n - 1 bytes": ("rust_plan.rs", ("lent.byte_entries < 1 << n", "lent.byte_entries + 1 < 1 << n")),
-    "check 11: tables for 2 odd nodes": ("rust_plan.rs", ("n >= 4 &&", "n >= 2 &&")),
-    "check 11: tables for no odd node": ("rust_plan.rs", ("n >= 4 &&", "")),
-    "check 11: no tables for 4 odd nodes": ("rust_plan.rs", ("n >= 4 &&", "n > 4 &&")),
+    "10 still given": ("rust_plan.rs", (SHORT_TABLES, MANY_REFUSED + SHORT_TABLES)),
+    "10 still given, behind 11": ("rust_plan.rs", (SHORT_TABLES, SHORT_TABLES + MANY_REFUSED)),
+    "11 before 9": ("rust_plan.rs", (SHORT_TABLES, ""), (ALL_REACHED, SHORT_TABLES + ALL_REACHED)),
+    "13 before 11": ("rust_plan.rs", (SHORT_TABLES, ""), (LINE_MADE, SHORT_TABLES_LATER + LINE_MADE)),
+    "14 before 11": ("rust_plan.rs", (SHORT_TABLES, ""), (ACCEPTED, SHORT_TABLES_LATER + ACCEPTED)),
+    "check 11: 2^n + 4 n entries": ("rust_plan.rs", ("(1 << n) + n * n", "(1 << n) + 4 * n")),
+    "check 11: 2^n + n^2 - 1 entries": ("rust_plan.rs", ("(1 << n) + n * n", "(1 << n) + n * n - 1")),
+    "check 11: 2^n - 1 bytes": ("rust_plan.rs", ("n * n, 1 << n)", "n * n, (1 << n) - 1)")),
+    "check 11: tables for 2 odd nodes": ("rust_plan.rs", ("n < 4 {", "n < 2 {")),
+    "check 11: tables for no odd node": ("rust_plan.rs", ("n < 4 {", "false {")),
+    "check 11: no tables for 4 odd nodes": ("rust_plan.rs", ("n < 4 {", "n <= 4 {")),
+    "check 11: n^2 + 1 entries above 20": asked_many("(n * n + 1, 0)"),
+    "check 11: n^2 - 1 entries above 20": asked_many("(n * n - 1, 0)"),
+    "check 11: n (n - 1) entries above 20": asked_many("(n * (n - 1), 0)"),
+    "check 11: n (n - 1) / 2 entries above 20": asked_many("(n * (n - 1) / 2, 0)"),
+    "check 11: 2^n + n^2 entries above 20": asked_many("((1 << n.min(40)) + n * n, 0)"),
+    "check 11: 2^n + n^2 entries and 2^n bytes above 20": asked_many("((1 << n.min(40)) + n * n, 1 << n.min(40))"),
+    "check 11: tables for 20 odd nodes above 20": asked_many("((1 << 20) + 400, 1 << 20)"),
+    "check 11: no tables above 20": asked_many("(0, 0)"),
+    "check 11: a byte above 20": asked_many("(n * n, 1)"),
+    "check 11: n bytes above 20": asked_many("(n * n, n)"),
+    "check 11: n^2 bytes above 20": asked_many("(n * n, n * n)"),
+    "check 11: n^2 entries from 20 on": ("rust_plan.rs", ("n <= DP_THRESHOLD {", "n < DP_THRESHOLD {")),
+    "check 11: n^2 entries from 24 on": ("rust_plan.rs", ("n <= DP_THRESHOLD {", "n <= 22 {")),
+    # An odd number of odd nodes can't be, so that 21 is no other threshold.
+    "many odd: from 20 on": ("const DP_THRESHOLD:", ("usize = 20", "usize = 19")),
+    "many odd: from 24 on": ("const DP_THRESHOLD:", ("usize = 20", "usize = 22")),
+    "many odd: 20 paired as many, tables as before": ("fn optimal_matching(", ("n <= DP_THRESHOLD", "n < DP_THRESHOLD")),
+    "many odd: 22 paired as few, tables as for many": ("fn optimal_matching(", ("n <= DP_THRESHOLD", "n <= 22")),
+    "choice: the graph's pairs on a tie": chosen("euclidean_cost < graph_dist_cost"),
+    "choice: the dearer": chosen("euclidean_cost >= graph_dist_cost"),
+    "choice: the Euclidean pairs always": chosen("true"),
+    "choice: the graph's pairs always": chosen("false"),
+    "choice: the Euclidean pairs where the costs are 1e-10 apart": chosen("euclidean_cost <= graph_dist_cost + 1e-10"),
+    "choice: the graph's pairs where the costs are 1e-10 apart": chosen("euclidean_cost <= graph_dist_cost - 1e-10"),
+    "choice: by costs in 32 bits": chosen("euclidean_cost as f32 <= graph_dist_cost as f32"),
+    "choice: by costs in whole pixels": chosen("euclidean_cost.round() <= graph_dist_cost.round()"),
+    "choice: by the costs of all pairs but the last": ("fn optimal_matching(", *[
+        (COSTED.format(which), COSTED.format(which).replace("_pairs", f"_pairs[..{which}_pairs.len() - 1]")) for which in ("euclidean", "graph_dist")]),
+    "choice: the Euclidean cost by straight distance": ("fn optimal_matching(", (COSTED.format("euclidean"), STRAIGHT.format("euclidean"))),
+    "choice: both costs by straight distance": ("fn optimal_matching(", *[
+        (COSTED.format(which), STRAIGHT.format(which)) for which in ("euclidean", "graph_dist")]),
+    "choice: the graph's pairs, from the last to the first": ("fn optimal_matching(", (
+        "            graph_dist_pairs\n", "            graph_dist_pairs.into_iter().rev().collect()\n")),
+    "choice: the graph's pairs, turned round": ("fn optimal_matching(", (
+        "            graph_dist_pairs\n", "            graph_dist_pairs.into_iter().map(|(a, b)| (b, a)).collect()\n")),
+    "choice: the Euclidean pairs, from the last to the first": ("fn optimal_matching(", (
+        "            euclidean_pairs\n", "            euclidean_pairs.into_iter().rev().collect()\n")),
+    "choice: the Euclidean pairs, turned round": ("fn optimal_matching(", (
+        "            euclidean_pairs\n", "            euclidean_pairs.into_iter().map(|(a, b)| (b, a)).collect()\n")),
+    "choice: the Euclidean pairs, the lower node first": ("fn optimal_matching(", (
+        "            euclidean_pairs\n", "            euclidean_pairs.into_iter().map(|(a, b)| (a.min(b), a.max(b))).collect()\n")),
+    "cost: from the last pair on": summed("costs.iter().rev().sum()"),
+    "cost: from the smallest on": summed("let mut costs = costs;\n    costs.sort_by(f64::total_cmp);\n    costs.iter().sum()"),
+    "cost: from the largest on": summed("let mut costs = costs;\n    costs.sort_by(f64::total_cmp);\n    costs.iter().rev().sum()"),
+    "cost: by halves": summed("let (one, other) = costs.split_at(costs.len() / 2);\n    one.iter().sum::<f64>() + other.iter().sum::<f64>()"),
+    "cost: what is lost in a sum is added at the end": summed("""let (mut sum, mut lost) = (0.0f64, 0.0);
+    for cost in costs {
+        let next = sum + cost;
+        lost += if sum.abs() >= cost.abs() { (sum - next) + cost } else { (cost - next) + sum };
+        sum = next;
+    }
+    sum + lost"""),
+    "cost: the longest pair alone": summed("costs.into_iter().fold(0.0, f64::max)"),
+    "cost: the two that are left too": summed("""let left: Vec<usize> = (0..odd.len()).filter(|&k| !pairs.iter().any(|&(a, b)| a == odd[k] || b == odd[k])).collect();
+    costs.iter().sum::<f64>() + dist_matrix[left[0]][left[1]]"""),
+    "cost: squares": pair_cost("dist_matrix[ia][ib] * dist_matrix[ia][ib]"),
+    "cost: from the second node": pair_cost("dist_matrix[ib][ia]"),
+    "cost: from the lower node": pair_cost("dist_matrix[ia.min(ib)][ia.max(ib)]"),
+    "cost: from the higher node": pair_cost("dist_matrix[ia.max(ib)][ia.min(ib)]"),
+    "cost: the smaller of both ways": pair_cost("dist_matrix[ia][ib].min(dist_matrix[ib][ia])"),
+    "cost: the larger of both ways": pair_cost("dist_matrix[ia][ib].max(dist_matrix[ib][ia])"),
+    "working list: the last of the nearest": working("d < best_dist", "d <= best_dist"),
+    "working list: remove for swap_remove": working(".swap_remove(", ".remove("),
+    "working list: the lower place removed first": working("if best_ii > best_jj", "if best_jj + 1 < indices.len()"),
+    "working list: from the second node": between("dist_matrix[j][i]"),
+    "working list: from the lower node": between("dist_matrix[i.min(j)][i.max(j)]"),
+    "working list: from the higher node": between("dist_matrix[i.max(j)][i.min(j)]"),
+    "working list: the smaller of both ways": between("dist_matrix[i][j].min(dist_matrix[j][i])"),
+    "working list: the larger of both ways": between("dist_matrix[i][j].max(dist_matrix[j][i])"),
+    "working list: in whole pixels": between("dist_matrix[i][j].round()"),
+    "working list: in 32 bits": between("f64::from(dist_matrix[i][j] as f32)"),
+    "working list: all are paired": working("indices.len() > 2", "indices.len() > 1"),
+    "working list: four are left": working("indices.len() > 2", "indices.len() > 4"),
+    "working list: a pair with its lower node first": working(WORKING_PAIR, """{
+            let (a, b) = (indices[best_ii], indices[best_jj]);
+            pairs.push((odd[a.min(b)], odd[a.max(b)]));
+        }"""),
+    "working list: a pair with its second node first": working(WORKING_PAIR, "pairs.push((odd[indices[best_jj]], odd[indices[best_ii]]));"),
+    "working list: the nearest of the first, by turns": working("for (ii, &i) in indices.iter().enumerate() {", "for (ii, &i) in indices.iter().enumerate().take(1) {"),
+    "working list: falling, not rising": ("fn greedy_graph_distance_matching(", ("d < best_dist", "-d < best_dist"), ("best_dist = d", "best_dist = -d")),
+    "distances: from lower nodes alone": distances("dist[i][j] = dist[j][i];"),
+    "distances: from higher nodes alone": distances("dist[j][i] = dist[i][j];"),
+    "distances: the smaller of both ways": distances("let least = dist[i][j].min(dist[j][i]);\n            (dist[i][j], dist[j][i]) = (least, least);"),
     "check 13: 3,999 edges at most": ("rust_plan.rs", ("MOST_EDGES: usize = 4000", "MOST_EDGES: usize = 3999")),
     "check 13: 4,001 edges at most": ("rust_plan.rs", ("MOST_EDGES: usize = 4000", "MOST_EDGES: usize = 4001")),
     "check 14: a byte more": ("rust_plan.rs", ("lent.output_bytes < 6", "lent.output_bytes <= 6")),

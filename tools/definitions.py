@@ -10,7 +10,7 @@ drawing and N theorems to a file, that the definition `plan` gives its answer fo
 with every byte of the output. Some cases take more steps than the checker allows, or too long; they are counted and
 named, and left to the program that replays the list with the planner's code:
 - files of more than BYTES bytes that pass checks 1 to 8 and 15,
-- Optimal with 10 odd nodes or more, since the definition tries every pairing.
+- Optimal with 10 to 20 odd nodes, since the definition tries every pairing; above 20 it takes the checker some 13 seconds a drawing.
 
 With --saved, LIST is one in the format of oracle/saved.txt, and the theorems say that `saveGiven` gives the answer, and the
 destination afterwards with every byte, for just what is handed over. Left to the replay are drawings of which the list has only
@@ -39,8 +39,8 @@ def too_long(case, most):
     is_read = head[0] == "ok" or int(head[1]) not in refusals.CHECKS
     if is_read and len(case.file) > most:
         return f"files of more than {most:,} bytes that pass checks 1 to 8 and 15"
-    if head[0] == "ok" and case.file[14] == 1 and int(head[2]) >= 10:
-        return "Optimal with 10 odd nodes or more"
+    if head[0] == "ok" and case.file[14] == 1 and 10 <= int(head[2]) <= 20:
+        return "Optimal with 10 to 20 odd nodes"
     if is_read and case.file[15] & 4 and lines_in(case.file) > MOST_LINES_LINKED:
         return f"links made for more than {MOST_LINES_LINKED} lines"
     return None

@@ -17,7 +17,20 @@ MINUS_ZERO = 1 << 63            # its pattern
 GREEDY, OPTIMAL = 0, 1          # pairing
 CLOSE, INSIDE, LINKING = 1, 2, 4  # flags, each a bit
 
-PLAN_F64, PLAN_BYTES, PLAN_OUTPUT = 2**12 + 12**2, 2**12, 6 + 16 * 4001  # what the program `plan` lends
+MOST_OPTIMAL = 20               # odd points for which optimal pairing compares all choices of pairs
+
+
+def tables_for(n):
+    """How many floats and bytes the tables need for optimal pairing with n odd points. Those for more than 20 have no bytes and are
+    not enough for 4 to 20; those for 20 are enough for every drawing, since none has more than 1,022 odd points."""
+    if n < 4:
+        return 0, 0
+    return (2**n + n * n, 2**n) if n <= MOST_OPTIMAL else (n * n, 0)
+
+
+PLAN_TABLES = 12                # the odd points that the tables of the program `plan` are for
+PLAN_F64, PLAN_BYTES, PLAN_OUTPUT = *tables_for(PLAN_TABLES), 6 + 16 * 4001  # what it lends
+ENOUGH = tables_for(MOST_OPTIMAL)  # tables for every drawing
 
 Record = collections.namedtuple("Record", "kind body place")
 Settings = collections.namedtuple("Settings", "width height pairing flags")

@@ -1,7 +1,7 @@
-"""Why a drawing is refused, in words: conditions 1 to 11 and 15 of docs/DRAWING-FILE.md, from the file alone.
+"""Why a drawing is refused, in words: conditions 1 to 9, 11 and 15 of docs/DRAWING-FILE.md, from the file alone.
 
 12 to 14 depend on the planner's own work: for these the planner is asked, and `by_the_planner` has the words. 16 is the
-writer's alone, and no file is refused with it.
+writer's alone, and no file is refused with it. 10 is given no more.
 """
 import collections
 import math
@@ -13,7 +13,7 @@ from .graph import graph
 
 MOST_BYTES, MOST_SIDE, MOST_PAIRING, MOST_FLAGS = 65536, 8192, 1, 7
 MOST_LINES, MOST_POINTS, MOST_LINKS = 256, 1024, 255
-MOST_OPTIMAL, MOST_EDGES = 20, 4000
+MOST_EDGES = 4000
 
 KINDS = {f.SETTINGS: "the settings", f.LINE: "a line", f.LINK: "a link"}
 
@@ -50,12 +50,11 @@ CONDITIONS = {
     9: ("some lines are not linked",
         "The ball can't be lifted, so every line must be reached over lines and links. Crossing is not joining: give both lines "
         "a point there, or add a link. A drawing without any links can have them made by the planner: `flags link`."),
-    10: ("too many odd points for optimal pairing",
-         f"Optimal pairing takes at most {MOST_OPTIMAL} points where an odd number of strokes ends: choose greedy pairing, or "
-         "join loose ends."),
     11: ("the work tables are too small for this many odd points",
-         "Optimal pairing with n odd points, 4 to 20, needs 2^n + n*n entries in one table and 2^n in the other; the program `plan` "
-         "lends tables for 12. Lend larger tables, choose greedy pairing, or join loose ends."),
+         f"Optimal pairing with n odd points needs 2^n + n*n entries in one table and 2^n in the other for 4 to {f.MOST_OPTIMAL}, and n*n in the "
+         f"first alone above. The program `plan` has tables for 4 to {f.PLAN_TABLES} odd points and for 22 to 64. Choose greedy pairing, join "
+         "loose ends until there are so few, or ask for larger tables: a program that calls the planner can lend them, as bindings/example.c "
+         f"does, and {f.ENOUGH[0]:,} and {f.ENOUGH[1]:,} entries are enough for every drawing."),
     12: ("no way back was found",
          "It is proved that no drawing gives this: please report it."),
     13: (f"the line would have more than {MOST_EDGES:,} steps",
@@ -64,6 +63,9 @@ CONDITIONS = {
     14: ("the output is too small for the line",
          "It needs 6 bytes and 16 for each point of the line; 64,022 are always enough."),
 }
+
+# Numbers that are given no more, and why. Nothing else is given such a number.
+ENDED = {10: f"it refused optimal pairing with more than {f.MOST_OPTIMAL} odd points, and such drawings are planned now."}
 
 # What the writer says of a drawing that is to be saved, in its order, and what two of these numbers say there alone.
 BY_THE_WRITER = [4, 5, 6, 15, 7, 8, 16]
@@ -82,7 +84,7 @@ def named(number, findings=()):
 
 
 def by_the_planner(file, number):
-    """The refusal that the planner gave a file to which conditions 1 to 11 and 15 don't apply."""
+    """The refusal that the planner gave a file to which conditions 1 to 9, 11 and 15 don't apply."""
     return named(number, odd_points(graph(f.assembled(f.split(file)[0]))) if number == 13 else ())
 
 
@@ -91,7 +93,7 @@ def count(number, word):
 
 
 def first_refusal(file, f64=f.PLAN_F64, byte=f.PLAN_BYTES):
-    """The first of conditions 1 to 11 and 15 that holds, with tables of these lengths; None if none does."""
+    """The first of conditions 1 to 9, 11 and 15 that holds, with tables of these lengths; None if none does."""
     records, cut = f.split(file)
     for number, check in CHECKS.items():
         findings = list(check(file, records, cut))
@@ -99,12 +101,10 @@ def first_refusal(file, f64=f.PLAN_F64, byte=f.PLAN_BYTES):
             return named(number, findings)
     drawing = f.assembled(records)
     made = graph(drawing)
-    optimal, n = drawing.settings.pairing == f.OPTIMAL, len(made.odd)
     if len(made.parts) > 1:
         return named(9, unlinked(made))
-    if optimal and n > MOST_OPTIMAL:
-        return named(10, odd_points(made))
-    if optimal and n >= 4 and (f64 < 2**n + n * n or byte < 2**n):
+    floats, bytes_needed = f.tables_for(len(made.odd))
+    if drawing.settings.pairing == f.OPTIMAL and (f64 < floats or byte < bytes_needed):
         return named(11, odd_points(made))
     return None
 
@@ -252,10 +252,10 @@ def astray(lines, line, segment):
 CHECKS = {1: too_long, 2: is_cut, 3: out_of_order, 4: wrong_length, 5: setting_out_of_range, 6: too_much, 15: own_links,
           7: off_the_grid, 8: link_astray}
 
-FROM_THE_FILE = {*CHECKS, 9, 10, 11}  # what `first_refusal` tells
+FROM_THE_FILE = {*CHECKS, 9, 11}  # what `first_refusal` tells
 
 
-# ---- conditions 9 to 11
+# ---- conditions 9 and 11
 
 def pixels(point):
     """A point in grid steps as a pair of patterns, as findings have them."""
@@ -346,9 +346,11 @@ def odd_points(made):
 
 
 def of_number(number):
-    """What a number says, as rows of text: of a file, and where the writer means something else by it, of saving. None: there is
-    no such number."""
+    """What a number says, as rows of text: of a file, and where the writer means something else by it, of saving; or that it is
+    given no more. None: there is no such number."""
     rows = told(named(number)) if number in CONDITIONS else []
+    if number in ENDED:
+        rows.append(f"{number} is given no more: {ENDED[number]}")
     if number in OF_THE_WRITER:
         condition, remedy = OF_THE_WRITER[number]
         rows += [f"refused {number}, of a drawing that was to be saved: {condition}", "What to do: " + remedy]

@@ -16,11 +16,13 @@ use Rattle.drawing_spec.specs.Refusal.{accepted, verdict}
 use Rattle.drawing_spec.specs.OnGrid.{AtEnds}
 use Rattle.graph_spec.specs.Pieces.{usesOf, linkUses}
 use Rattle.graph_spec.specs.Graph.{pointAt, buildGraph}
+use Rattle.graph_spec.specs.Odd.{oddNodes, oddFrom}
 use Rattle.graph_spec.proofs.Nodes.{distinct, uses-all}
 use Rattle.graph_spec.proofs.Strokes.{uses-of-all}
 use Rattle.graph_spec.proofs.Built.{built-numbered}
 use Rattle.graph_counts.specs.Few.{Few}
 use Rattle.graph_counts.proofs.Edges.{pointsOf, edges-few}
+use Rattle.graph_counts.proofs.Odd.{ends-length, odd-few}
 
 -- ---- different elements of a list are at most as many as it has
 
@@ -72,11 +74,6 @@ apart-places (p ∷ ps) h = (
 abbrev pub drawnPoints : Drawing → List Point
 drawnPoints d = linePoints (d .lines) ++ linkUses (d .links)
 
-ends-length : (ks : List Link) → length (linkUses ks) ≡ 2 * length ks
-unfolding linkUses
-ends-length [] = refl
-ends-length (k ∷ ks) = omega (arith, ends-length ks)
-
 module _ (ps : List Point) where
   lines-in : (ls : List (List Point)) → ((p : Point) → In p (linePoints ls) → In p ps) → All (All (λ (p : Point). In p ps)) ls
   unfolding linePoints
@@ -110,12 +107,16 @@ nodes-few d =
 -- ---- after checks 1 to 8
 
 pub counted-few : (d : Drawing) → Counts d → Few d
-counted-few d c = record { nodes = omega (arith, nodes-few d, c .points, c .links); edges = omega (arith, edges-few d, c .points, c .links) }
+counted-few d c = record {
+  nodes = omega (arith, nodes-few d, c .points, c .links);
+  edges = omega (arith, edges-few d, c .points, c .links);
+  odd = omega (arith, odd-few d, c .lines, c .links);
+}
 
 pub accepted-few : (file : List ℕ) → verdict (readConditions file) ≡ accepted → Few (drawingOf (recordsOf file))
 accepted-few file e = counted-few (drawingOf (recordsOf file)) (passed-counts file (accepted-passes file e))
 
--- ---- worked example: a line of two points with a link between two places on it reaches both bounds
+-- ---- worked example: a line of two points with a link between two places on it reaches all three bounds
 
 abbrev at : ℕ → Point
 at x = record { x = x; y = 0 }
@@ -137,3 +138,7 @@ bent-nodes = refl
 bent-edges : length (buildGraph bent .edges) ≡ pointsOf bent - 1 + 3 * length (bent .links)
 unfolding bent buildGraph total
 bent-edges = refl
+
+bent-odd : length (oddNodes (length (buildGraph bent .nodes)) (buildGraph bent .edges)) ≡ 2 * length (bent .lines) + 2 * length (bent .links)
+unfolding bent buildGraph oddFrom
+bent-odd = refl

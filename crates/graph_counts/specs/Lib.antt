@@ -1,2 +1,2 @@
--- How many nodes and edges the graph of a drawing has at most.
+-- How many nodes, edges and odd nodes the graph of a drawing has at most.
 pub mod Few

@@ -58,7 +58,7 @@ fileSize lines points links = headSize + settingsSize + headSize * lines + point
 abbrev pub mostFile : ℕ
 mostFile = fileSize mostLines mostPoints mostLinks
 
--- checks 10 and 11
+-- check 11
 abbrev pub mostOdd : ℕ
 mostOdd = 20
 
@@ -118,9 +118,7 @@ refusedLinks = 8
 abbrev pub refusedApart : ℕ
 refusedApart = 9
 
-abbrev pub refusedOdd : ℕ
-refusedOdd = 10
-
+-- 10 is given no more
 abbrev pub refusedTables : ℕ
 refusedTables = 11
 

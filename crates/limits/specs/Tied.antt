@@ -47,7 +47,6 @@ refusalsAre = record {
   coordinates = named.refusedCoordinates;
   links = named.refusedLinks;
   apart = named.refusedApart;
-  odd = named.refusedOdd;
   tables = named.refusedTables;
   path = named.refusedPath;
   edges = named.refusedEdges;

@@ -45,7 +45,7 @@ pub const MOST_FILE: usize = HEAD_SIZE
     + POINT_SIZE * MOST_POINTS
     + (HEAD_SIZE + LINK_SIZE) * MOST_LINKS;
 
-// Checks 10 and 11: the odd nodes that Optimal pairs.
+// Check 11: the odd nodes of which Optimal tries all pairings.
 pub const MOST_ODD: usize = 20;
 
 // Check 13: the edges of a repaired graph.
@@ -86,8 +86,7 @@ pub const REFUSED_LINKS: u8 = 8;
 
 pub const REFUSED_APART: u8 = 9;
 
-pub const REFUSED_ODD: u8 = 10;
-
+// 10 is given no more, and stays unused.
 pub const REFUSED_TABLES: u8 = 11;
 
 pub const REFUSED_PATH: u8 = 12;
@@ -182,7 +181,6 @@ pub struct Refusals {
     pub coordinates: u8,
     pub links: u8,
     pub apart: u8,
-    pub odd: u8,
     pub tables: u8,
     pub path: u8,
     pub edges: u8,
@@ -205,7 +203,6 @@ pub fn refusals_tied() -> Refusals
         coordinates: REFUSED_COORDINATES,
         links: REFUSED_LINKS,
         apart: REFUSED_APART,
-        odd: REFUSED_ODD,
         tables: REFUSED_TABLES,
         path: REFUSED_PATH,
         edges: REFUSED_EDGES,

@@ -7,7 +7,7 @@ use native.Mathlib.Omega.{arith}
 use lib.ListN.{length}
 use lib.Dec.{ltb}
 use lib.Ieee.{Float, binary64, toBits}
-use Rattle.limits.specs.Limits.{mostOdd, mostEdges, refusedOdd, refusedTables, refusedEdges, refusedOutput}
+use Rattle.limits.specs.Limits.{mostOdd, mostEdges, refusedTables, refusedEdges, refusedOutput}
 use Rattle.sums.specs.Key.{Nonneg}
 use Rattle.drawing_spec.specs.Drawing.{Point, Settings}
 use Rattle.drawing_spec.specs.Refusal.{condition, refused, accepted, verdict}
@@ -15,7 +15,7 @@ use Rattle.graph_spec.specs.Graph.{Edge, Graph}
 use Rattle.graph_spec.specs.Odd.{oddNodes}
 use Rattle.graph_spec.specs.Reach.{allReached}
 use Rattle.graph_spec.specs.Weights.{Searchable}
-use Rattle.repair_spec.specs.Repair.{Repair, Repairing, stopped, repaired, tooManyOdd, tableShort}
+use Rattle.repair_spec.specs.Repair.{Repair, Repairing, stopped, repaired, tableShort}
 use Rattle.repair_pairs.specs.Refusal.{tableConditions}
 use Rattle.repair_retrace.specs.Outcome.{outcome}
 use Rattle.repair.specs.Parity.{Value, refusal, values, valueOf, parityFor}
@@ -23,7 +23,7 @@ use Rattle.walk_spec.specs.Line.{lineOf}
 use Rattle.planner_spec.specs.LineRecord.{lineRecord}
 use Rattle.drawing_spec.specs.Bytes.{inFront}
 use Rattle.planner_spec.specs.Plan as plan
-use Rattle.planner_spec.proofs.Plan.{plan-many, plan-tables, plan-stopped, plan-output, plan-drawn}
+use Rattle.planner_spec.proofs.Plan.{plan-tables, plan-stopped, plan-output, plan-drawn}
 use Rattle.planner_graph.proofs.Sum.{repair-summed}
 
 module _ (g : Graph) (s : Settings) (lent : plan.Lent) where
@@ -34,27 +34,23 @@ module _ (g : Graph) (s : Settings) (lent : plan.Lent) where
   abbrev parity : Value
   parity = parityFor mostEdges refusedEdges g s (lent .floats) (lent .bytes)
 
-  -- by the truth of conditions 10 and 11
-  abbrev by : Bool → Bool → Value
-  by many short =
-      elim (verdict (condition refusedOdd many ∷ condition refusedTables short ∷ [])) as (λ v. Value) [
+  -- by the truth of condition 11
+  abbrev by : Bool → Value
+  by short =
+      elim (verdict (condition refusedTables short ∷ [])) as (λ v. Value) [
         | refused k ↦ refusal k
         | accepted ↦ valueOf (length (g .nodes)) (odd (g .edges)) (outcome (plan.repairOf g s))
       ]
 
-  abbrev Many : Bool → Type 0
-  Many b = tooManyOdd mostOdd s (odd (g .edges)) ≡ b
-
   abbrev Short : Bool → Type 0
   Short b = tableShort mostOdd s (odd (g .edges)) (lent .floats) (lent .bytes) ≡ b
 
-  parity-by : (b c : Bool) → Many b → Short c → parity ≡ by b c
+  parity-by : (c : Bool) → Short c → parity ≡ by c
   unfolding parityFor tableConditions plan.repairOf
-  parity-by b c p q = ap (λ (t : Bool). by t (tableShort mostOdd s (odd (g .edges)) (lent .floats) (lent .bytes))) p ∙ ap (by b) q
+  parity-by c q = ap by q
 
   -- what a repair without refusal is
   pub record Mended (x : Float) (before after : ℕ) (es : List Edge) : Type 0 where
-    pub few : Many false
     pub long : Short false
     pub repair : Repair
     pub repairs : plan.repairOf g s ≡ repaired repair
@@ -65,7 +61,7 @@ module _ (g : Graph) (s : Settings) (lent : plan.Lent) where
 
   pub mended : (x : Float) (before after : ℕ) (es : List Edge) → values x before after es ≡ parity → Mended x before after es
   unfolding verdict
-  mended x before after es e = go (tooManyOdd mostOdd s (odd (g .edges))) (tableShort mostOdd s (odd (g .edges)) (lent .floats) (lent .bytes)) refl refl
+  mended x before after es e = go (tableShort mostOdd s (odd (g .edges)) (lent .floats) (lent .bytes)) refl
     where
       one : Value → ℕ
       one (refusal k) = 0
@@ -87,10 +83,9 @@ module _ (g : Graph) (s : Settings) (lent : plan.Lent) where
       edges (refusal k) = []
       edges (values y b a fs) = fs
 
-      repaired-so : Many false → Short false → (r : Repairing) → plan.repairOf g s ≡ r → values x before after es ≡ valueOf (length (g .nodes)) (odd (g .edges)) (outcome r) → Mended x before after es
-      repaired-so p q (stopped k) i h = absurd (let z : _≡_ {A = ℕ} 1 0 = ap one h in omega arith)
-      repaired-so p q (repaired r) i h = record {
-        few = p;
+      repaired-so : Short false → (r : Repairing) → plan.repairOf g s ≡ r → values x before after es ≡ valueOf (length (g .nodes)) (odd (g .edges)) (outcome r) → Mended x before after es
+      repaired-so q (stopped k) i h = absurd (let z : _≡_ {A = ℕ} 1 0 = ap one h in omega arith)
+      repaired-so q (repaired r) i h = record {
         long = q;
         repair = r;
         repairs = i;
@@ -100,15 +95,14 @@ module _ (g : Graph) (s : Settings) (lent : plan.Lent) where
         edges-are = sym (ap edges h);
       }
 
-      go : (b c : Bool) → Many b → Short c → Mended x before after es
-      go true c p q = absurd (let z : _≡_ {A = ℕ} 1 0 = ap one (e ∙ parity-by true c p q) in omega arith)
-      go false true p q = absurd (let z : _≡_ {A = ℕ} 1 0 = ap one (e ∙ parity-by false true p q) in omega arith)
-      go false false p q = repaired-so p q (plan.repairOf g s) refl (e ∙ parity-by false false p q)
+      go : (c : Bool) → Short c → Mended x before after es
+      go true q = absurd (let z : _≡_ {A = ℕ} 1 0 = ap one (e ∙ parity-by true q) in omega arith)
+      go false q = repaired-so q (plan.repairOf g s) refl (e ∙ parity-by false q)
 
   module _ (reached : allReached (length (g .nodes)) (g .edges) ≡ true) where
     pub refused-planned : (k : ℕ) → refusal k ≡ parity → plan.planGraph g s lent ≡ plan.refuse k lent
     unfolding verdict plan.oddCount
-    refused-planned k e = go (tooManyOdd mostOdd s (odd (g .edges))) (tableShort mostOdd s (odd (g .edges)) (lent .floats) (lent .bytes)) refl refl
+    refused-planned k e = go (tableShort mostOdd s (odd (g .edges)) (lent .floats) (lent .bytes)) refl
       where
         number : Value → ℕ
         number (refusal j) = j
@@ -121,14 +115,13 @@ module _ (g : Graph) (s : Settings) (lent : plan.Lent) where
         refuse-by : (j : ℕ) → j ≡ k → plan.planGraph g s lent ≡ plan.refuse j lent → plan.planGraph g s lent ≡ plan.refuse k lent
         refuse-by j i h = h ∙ ap (λ (m : ℕ). plan.refuse m lent) i
 
-        stopped-so : Many false → Short false → (r : Repairing) → plan.repairOf g s ≡ r → refusal k ≡ valueOf (length (g .nodes)) (odd (g .edges)) (outcome r) → plan.planGraph g s lent ≡ plan.refuse k lent
-        stopped-so p q (stopped j) i h = refuse-by j (sym (ap number h)) (plan-stopped g s lent reached p q j i)
-        stopped-so p q (repaired r) i h = absurd (let z : _≡_ {A = ℕ} 0 1 = ap one h in omega arith)
+        stopped-so : Short false → (r : Repairing) → plan.repairOf g s ≡ r → refusal k ≡ valueOf (length (g .nodes)) (odd (g .edges)) (outcome r) → plan.planGraph g s lent ≡ plan.refuse k lent
+        stopped-so q (stopped j) i h = refuse-by j (sym (ap number h)) (plan-stopped g s lent reached q j i)
+        stopped-so q (repaired r) i h = absurd (let z : _≡_ {A = ℕ} 0 1 = ap one h in omega arith)
 
-        go : (b c : Bool) → Many b → Short c → plan.planGraph g s lent ≡ plan.refuse k lent
-        go true c p q = refuse-by refusedOdd (sym (ap number (e ∙ parity-by true c p q))) (plan-many g s lent reached p)
-        go false true p q = refuse-by refusedTables (sym (ap number (e ∙ parity-by false true p q))) (plan-tables g s lent reached p q)
-        go false false p q = stopped-so p q (plan.repairOf g s) refl (e ∙ parity-by false false p q)
+        go : (c : Bool) → Short c → plan.planGraph g s lent ≡ plan.refuse k lent
+        go true q = refuse-by refusedTables (sym (ap number (e ∙ parity-by true q))) (plan-tables g s lent reached q)
+        go false q = stopped-so q (plan.repairOf g s) refl (e ∙ parity-by false q)
 
     module _ (x : Float) (before after : ℕ) (es : List Edge) (M : Mended x before after es) (line : List Point) (line-is : line ≡ lineOf s (g .nodes) es) where
       line-for : plan.lineFor g s (M .repair) ≡ line
@@ -138,14 +131,14 @@ module _ (g : Graph) (s : Settings) (lent : plan.Lent) where
       pub short-planned : ltb (length (lent .output)) (6 + 16 * length line) ≡ true → plan.planGraph g s lent ≡ plan.refuse refusedOutput lent
       unfolding plan.oddCount
       short-planned h =
-          plan-output g s lent reached (M .few) (M .long) (M .repair) (M .repairs) (ap (λ (l : List Point). ltb (length (lent .output)) (6 + 16 * length l)) line-for ∙ h)
+          plan-output g s lent reached (M .long) (M .repair) (M .repairs) (ap (λ (l : List Point). ltb (length (lent .output)) (6 + 16 * length l)) line-for ∙ h)
 
       pub line-planned : ltb (length (lent .output)) (6 + 16 * length line) ≡ false
           → plan.planGraph g s lent ≡ record { answer = plan.planned (record { retrace = toBits binary64 x; before = before; after = after; points = length line }); output = inFront (lineRecord line) (lent .output) }
       unfolding plan.oddCount plan.answerFor
       line-planned h =
           let open-room = ap (λ (l : List Point). ltb (length (lent .output)) (6 + 16 * length l)) line-for ∙ h in
-          plan-drawn g s lent reached (M .few) (M .long) (M .repair) (M .repairs) open-room
+          plan-drawn g s lent reached (M .long) (M .repair) (M .repairs) open-room
           ∙ (λ i. record {
             answer = plan.planned (record { retrace = toBits binary64 (M .sum-is i); before = M .before-is i; after = M .after-is i; points = length (line-for i) });
             output = inFront (lineRecord (line-for i)) (lent .output);

@@ -1,4 +1,4 @@
-// The plan of a graph that stands in arrays: check 9, repair with checks 10 to 13, and the line with check 14.
+// The plan of a graph that stands in arrays: check 9, repair with checks 11 to 13, and the line with check 14.
 ghost use mathlib.Core.Path.{_≡_};
 ghost use Rattle.file_records.specs.Meaning.{settingsOf};
 ghost use Rattle.graph_adjacency.specs.Lists.{adjacency};

@@ -16,7 +16,7 @@ use Rattle.drawing_spec.proofs.Accepted.{accepted-passes, in-limits}
 use Rattle.graph_spec.specs.Graph.{Edge, edge, Graph, pointAt, buildGraph}
 use Rattle.graph_spec.specs.Odd.{oddNodes}
 use Rattle.repair_spec.specs.Distance.{zeroLength}
-use Rattle.repair_spec.specs.Repair.{Repairing, stopped, repaired, drawn, pairsOf, applyMatching, closeIf, fixParity, tooManyOdd, tableShort}
+use Rattle.repair_spec.specs.Repair.{Repairing, stopped, repaired, drawn, pairsOf, applyMatching, closeIf, fixParity, tableShort}
 use Rattle.center.specs.Center.{better}
 use Rattle.walk_spec.specs.Start.{distance, bestOf, best, withEdges}
 use Rattle.walk_spec.specs.Walk.{circuit, nodesOf}
@@ -109,7 +109,7 @@ module _ (w h p f e : ℕ) (closes : eqb (f % 2) 1 ≡ eqb (e % 2) 1) (starts : 
 
   -- a plan sees the flags by bits 1 and 2 alone
   pub graph-same : (g : Graph) (lent : Lent) → planGraph g s lent ≡ planGraph g t lent
-  unfolding planGraph graphConditions tooManyOdd tableShort
+  unfolding planGraph graphConditions tableShort
   graph-same g lent =
       λ i. elim (verdict (graphConditions g s lent)) as (λ v. Outcome) [ refused n ↦ refuse n lent | accepted ↦ (repaired-same g lent (repairOf g s) ∙ ap (planRepaired g t lent) (repair-same g)) i ]
 

@@ -1,4 +1,4 @@
--- Conditions 9 to 14 at their edges, worked out on small graphs; and outputs that hold no line.
+-- Conditions 9 and 11 to 14 at their edges, worked out on small graphs; and outputs that hold no line.
 use Prim.Native.Nat.{ℕ, zero, suc, _+_, _-_, _^_}
 use mathlib.Core.Path.{_≡_, refl, sym, ap, subst}
 use mathlib.Core.List.{List, [], _∷_, _++_, map}
@@ -18,7 +18,7 @@ use Rattle.planner_spec.proofs.LineRecord.{record-length}
 use Rattle.planner_spec.specs.Plan.{Lent, Answer, refusal, planned, repairOf, graphConditions, outputConditions, planRepaired, planGraph}
 
 -- whatever the graph, the settings, what is lent and the repair: those before repair, those that repair stops with, and the one behind it
-in-order : (g : Graph) (s : Settings) (lent : Lent) (r : Repair) → map numberOf (graphConditions g s lent) ++ (refusedPath ∷ refusedEdges ∷ map numberOf (outputConditions g s lent r)) ≡ 9 ∷ 10 ∷ 11 ∷ 12 ∷ 13 ∷ 14 ∷ []
+in-order : (g : Graph) (s : Settings) (lent : Lent) (r : Repair) → map numberOf (graphConditions g s lent) ++ (refusedPath ∷ refusedEdges ∷ map numberOf (outputConditions g s lent r)) ≡ 9 ∷ 11 ∷ 12 ∷ 13 ∷ 14 ∷ []
 unfolding graphConditions outputConditions
 in-order g s lent r = refl
 
@@ -64,7 +64,7 @@ answerTo pairing g floats bytes output = planGraph g (settings pairing 0) (recor
 
 -- ---- several conditions at once: the first gives the number
 
--- apart, with too many odd nodes, no tables and no output
+-- apart, with no tables and no output
 apart-first : answerTo 1 (starAndDot 22) 0 0 0 ≡ refusal 9
 unfolding answerTo starAndDot
 apart-first = refl
@@ -74,9 +74,9 @@ tables-first : answerTo 1 (star 6) 0 0 0 ≡ refusal 11
 unfolding answerTo star
 tables-first = refl
 
--- ---- 10 and 11
+-- ---- 11
 
--- 20 odd nodes are not too many for Optimal, and need tables of 2 ^ 20 + 20² and of 2 ^ 20; one more end at node 0 makes 22
+-- 20 odd nodes need tables of 2 ^ 20 + 20² and of 2 ^ 20; one more end at node 0 makes 22, which need 22² and no bytes
 twenty-floats : answerTo 1 (star 20) (2 ^ 20 + 399) (2 ^ 20) 0 ≡ refusal 11
 unfolding answerTo star
 twenty-floats = refl
@@ -85,9 +85,13 @@ twenty-bytes : answerTo 1 (star 20) (2 ^ 20 + 400) (2 ^ 20 - 1) 0 ≡ refusal 11
 unfolding answerTo star
 twenty-bytes = refl
 
-more-than-twenty : answerTo 1 (star 21) (2 ^ 21 + 441) (2 ^ 21) 0 ≡ refusal 10
+busy-floats : answerTo 1 (star 21) 483 0 662 ≡ refusal 11
 unfolding answerTo star
-more-than-twenty = refl
+busy-floats = refl
+
+busy : answerTo 1 (star 21) 484 0 662 ≡ planned (record { retrace = 0x4033000000000000; before = 22; after = 2; points = 41 })
+unfolding answerTo star
+busy = refl
 
 -- 6 odd nodes: 2 ^ 6 + 6² entries and 2 ^ 6; there are two retraces of two edges each
 six-floats : answerTo 1 (star 6) 99 64 200 ≡ refusal 11

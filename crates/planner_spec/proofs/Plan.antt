@@ -7,14 +7,14 @@ use Prim.Native.Nat.{ℕ, _+_, _*_, _≤_}
 use lib.ListN.{length}
 use lib.Dec.{ltb}
 use borrow.Author.Tests.{not-false, ltb-false}
-use Rattle.limits.specs.Limits.{mostOdd, mostEdges, refusedApart, refusedOdd, refusedTables, refusedPath, refusedEdges, refusedOutput}
+use Rattle.limits.specs.Limits.{mostOdd, mostEdges, refusedApart, refusedTables, refusedPath, refusedEdges, refusedOutput}
 use Rattle.drawing_spec.specs.Drawing.{Settings, Drawing}
 use Rattle.drawing_spec.specs.Refusal.{Condition, condition, Verdict, refused, accepted, verdict, holds}
 use Rattle.drawing_spec.proofs.Refusal.{fails}
 use Rattle.drawing_spec.specs.Read.{readConditions}
 use Rattle.graph_spec.specs.Graph.{Graph, buildGraph}
 use Rattle.graph_spec.specs.Reach.{allReached}
-use Rattle.repair_spec.specs.Repair.{Repair, Repairing, stopped, repaired, tooManyOdd, tableShort}
+use Rattle.repair_spec.specs.Repair.{Repair, Repairing, stopped, repaired, tableShort}
 use Rattle.repair_spec.proofs.Stops.{stops}
 use Rattle.planner_spec.specs.Plan.{Lent, Planned, refusal, planned, Outcome, drawingIn, oddCount, repairOf, lineFor, graphConditions, outputConditions, answerFor, refuse, accept, planRepaired, planGraph, planDrawing, plan}
 
@@ -45,9 +45,9 @@ stops-by g s k e = stops mostEdges refusedEdges g s k e
 -- ---- a graph, by cases
 
 module _ (g : Graph) (s : Settings) (lent : Lent) where
-  -- conditions 9 to 11, for any truth of them
-  abbrev conditions : Bool → Bool → Bool → List Condition
-  conditions reached many tables = condition refusedApart (not reached) ∷ condition refusedOdd many ∷ condition refusedTables tables ∷ []
+  -- conditions 9 and 11, for any truth of them
+  abbrev conditions : Bool → Bool → List Condition
+  conditions reached tables = condition refusedApart (not reached) ∷ condition refusedTables tables ∷ []
 
   abbrev outcome : Verdict → Repairing → Outcome
   outcome v x = elim v [ refused n ↦ refuse n lent | accepted ↦ planRepaired g s lent x ]
@@ -55,33 +55,26 @@ module _ (g : Graph) (s : Settings) (lent : Lent) where
   abbrev pub Reached : Bool → Type 0
   Reached b = allReached (length (g .nodes)) (g .edges) ≡ b
 
-  abbrev pub ManyOdd : Bool → Type 0
-  ManyOdd b = tooManyOdd mostOdd s (oddCount g (g .edges)) ≡ b
-
   abbrev pub ShortTables : Bool → Type 0
   ShortTables b = tableShort mostOdd s (oddCount g (g .edges)) (lent .floats) (lent .bytes) ≡ b
 
-  by : {a b c : Bool} {x : Repairing} → Reached a → ManyOdd b → ShortTables c → repairOf g s ≡ x → planGraph g s lent ≡ outcome (verdict (conditions a b c)) x
+  by : {a b : Bool} {x : Repairing} → Reached a → ShortTables b → repairOf g s ≡ x → planGraph g s lent ≡ outcome (verdict (conditions a b)) x
   unfolding planGraph graphConditions
-  by h i j k = λ z. outcome (verdict (conditions (h z) (i z) (j z))) (k z)
+  by h i j = λ z. outcome (verdict (conditions (h z) (i z))) (j z)
 
   pub plan-apart : Reached false → planGraph g s lent ≡ refuse refusedApart lent
   unfolding verdict
-  plan-apart h = by h refl refl refl
+  plan-apart h = by h refl refl
 
   module _ (reached : Reached true) where
-    pub plan-many : ManyOdd true → planGraph g s lent ≡ refuse refusedOdd lent
+    pub plan-tables : ShortTables true → planGraph g s lent ≡ refuse refusedTables lent
     unfolding verdict
-    plan-many h = by reached h refl refl
+    plan-tables h = by reached h refl
 
-    pub plan-tables : ManyOdd false → ShortTables true → planGraph g s lent ≡ refuse refusedTables lent
-    unfolding verdict
-    plan-tables m h = by reached m h refl
-
-    module _ (few : ManyOdd false) (long : ShortTables false) where
+    module _ (long : ShortTables false) where
       pub plan-stopped : (k : ℕ) → repairOf g s ≡ stopped k → planGraph g s lent ≡ refuse k lent
       unfolding verdict planRepaired
-      plan-stopped k e = by reached few long e
+      plan-stopped k e = by reached long e
 
       module _ (r : Repair) (is : repairOf g s ≡ repaired r) where
         abbrev onOutput : Bool → Outcome
@@ -89,7 +82,7 @@ module _ (g : Graph) (s : Settings) (lent : Lent) where
 
         by-output : {f : Bool} → ltb (length (lent .output)) (6 + 16 * length (lineFor g s r)) ≡ f → planGraph g s lent ≡ onOutput f
         unfolding verdict planRepaired outputConditions
-        by-output h = by reached few long is ∙ ap onOutput h
+        by-output h = by reached long is ∙ ap onOutput h
 
         pub plan-output : ltb (length (lent .output)) (6 + 16 * length (lineFor g s r)) ≡ true → planGraph g s lent ≡ refuse refusedOutput lent
         unfolding verdict

@@ -5,7 +5,7 @@ use mathlib.Core.Bool.{not}
 use lib.ListN.{length, replicate}
 use lib.Dec.{ltb}
 use lib.Ieee.{Float, binary64, toBits}
-use Rattle.limits.specs.Limits.{headSize, pointSize, mostOdd, mostEdges, refusedApart, refusedOdd, refusedTables, refusedEdges, refusedOutput}
+use Rattle.limits.specs.Limits.{headSize, pointSize, mostOdd, mostEdges, refusedApart, refusedTables, refusedEdges, refusedOutput}
 use Rattle.drawing_spec.specs.Drawing.{Point, Settings, Drawing}
 use Rattle.drawing_spec.specs.Refusal.{Condition, condition, refused, accepted, verdict}
 use Rattle.drawing_spec.specs.Read.{recordsOf, drawingOf, readConditions}
@@ -13,7 +13,7 @@ use Rattle.graph_spec.specs.Graph.{Edge, Graph, buildGraph}
 use Rattle.graph_spec.specs.Odd.{oddNodes, oddFrom}
 use Rattle.graph_spec.specs.Reach.{allReached}
 use Rattle.repair_spec.specs.Distance.{zeroLength}
-use Rattle.repair_spec.specs.Repair.{Repair, Repairing, stopped, repaired, fixParity, tooManyOdd, tableShort}
+use Rattle.repair_spec.specs.Repair.{Repair, Repairing, stopped, repaired, fixParity, tableShort}
 use Rattle.links_spec.specs.Made.{toPlan}
 use Rattle.walk_spec.specs.Line.{lineOf}
 use Rattle.planner_spec.specs.LineRecord.{lineRecord}
@@ -41,14 +41,13 @@ unfoldable pub lineFor : Graph → Settings → Repair → List Point
 unfolding lineOf
 lineFor g s r = lineOf s (g .nodes) (r .edges)
 
--- ---- the conditions in document 01's order: 9 to 11 before repair, and 14 behind it; 12 and 13, between them, are repair's own
+-- ---- the conditions in document 01's order: 9 and 11 before repair, and 14 behind it; 12 and 13, between them, are repair's own. 10 is given no more.
 
 unfoldable pub graphConditions : Graph → Settings → Lent → List Condition
-unfolding oddCount allReached tooManyOdd tableShort
+unfolding oddCount allReached tableShort
 graphConditions g s lent =
     let odd = oddCount g (g .edges) in
     condition refusedApart (not (allReached (length (g .nodes)) (g .edges)))
-    ∷ condition refusedOdd (tooManyOdd mostOdd s odd)
     ∷ condition refusedTables (tableShort mostOdd s odd (lent .floats) (lent .bytes))
     ∷ []
 

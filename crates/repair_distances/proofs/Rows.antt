@@ -1,7 +1,7 @@
 -- Laws of specs/Rows.
 use mathlib.Core.Path.{_≡_, refl, sym, ap, _∙_}
 use mathlib.Core.List.{List}
-use Prim.Native.Nat.{ℕ, suc, _+_, _*_, _^_, _<_}
+use Prim.Native.Nat.{ℕ, suc, _+_, _*_, _≤_, _<_}
 use native.Mathlib.Nat.{mul-le-mul-right}
 use native.Mathlib.Decide.{ℕ-discrete}
 use native.Mathlib.Omega.{arith}
@@ -17,7 +17,7 @@ use Rattle.graph_arrays.specs.NodeList.{NodeList}
 use Rattle.repair_spec.specs.Distance.{infinity, distanceAt, distances}
 use Rattle.repair_search.specs.Search.{Found}
 use Rattle.repair_search.proofs.Search.{all-same}
-use Rattle.repair_distances.specs.Rows.{Copied, Row, Rows}
+use Rattle.repair_distances.specs.Rows.{Copied, SameBefore, Row, Rows}
 
 pub copied-none : (at : List Float) (odd : List ℕ) (start : ℕ) (ws : List Float) → Copied at odd 0 start ws ws
 copied-none at odd start ws = record { row = λ j h. absurd (omega arith); before = λ k h. refl }
@@ -32,26 +32,41 @@ copied-turn at odd j start v ws₀ ws e h C = record {
   before = λ k l. getD-set-other ws (start + j) k (getD at v nan) nan (λ z. omega arith) ∙ C .before k l;
 }
 
-pub row-is : (n m : ℕ) (a : Adjacency) (odd : List ℕ) (count i s start : ℕ) (at ws₀ ws : List Float) → EdgesHeld n m a → i < count → NodeList n mostNodes odd count
-    → s ≡ getD odd i 0 → start ≡ 2 ^ count + i * count → Found (edgesIn m a) s mostNodes at → Copied at odd count start ws₀ ws → Row n (edgesIn m a) odd count i ws₀ ws
-row-is n m a odd count i s start at ws₀ ws E h nodes is st F C = record {
+-- what is copied to the row of the place i leaves what stands before it
+pub copied-before : (at : List Float) (odd : List ℕ) (count base i start : ℕ) (ws₀ ws : List Float) → start ≡ base + i * count → Copied at odd count start ws₀ ws → SameBefore count base i ws₀ ws
+copied-before at odd count base i start ws₀ ws st C = record { same = λ k l. C .before k (omega arith) }
+
+pub row-is : (n m : ℕ) (a : Adjacency) (odd : List ℕ) (count base i s start : ℕ) (at ws₀ ws : List Float) → EdgesHeld n m a → i < count → NodeList n mostNodes odd count
+    → s ≡ getD odd i 0 → start ≡ base + i * count → Found (edgesIn m a) s mostNodes at → Copied at odd count start ws₀ ws → Row n (edgesIn m a) odd count base i ws₀ ws
+row-is n m a odd count base i s start at ws₀ ws E h nodes is st F C = record {
   right = λ j l.
       ap (λ (q : ℕ). getD ws (q + j) nan) (sym st) ∙ C .row j l
       ∙ getD-inside at (getD odd j 0) nan infinity (omega (arith, nodes .nodes-in j l, F .long, E .edges .few-nodes))
       ∙ all-same (edgesIn m a) s mostNodes at F n (E .edges .inside) (E .searchable .weights) (omega (arith, nodes .nodes-in i h)) (omega arith) (getD odd j 0)
       ∙ ap (λ (u : ℕ). distanceAt (distances n (edgesIn m a) u) (getD odd j 0)) is;
-  before = λ k l. C .before k (omega arith);
+  before = copied-before at odd count base i start ws₀ ws st C;
 }
 
-pub rows-none : (n : ℕ) (es : List Edge) (odd : List ℕ) (count : ℕ) (ws : List Float) → Rows n es odd count 0 ws
-rows-none n es odd count ws a j h l = absurd (omega arith)
+pub rows-none : (n : ℕ) (es : List Edge) (odd : List ℕ) (count base : ℕ) (ws : List Float) → Rows n es odd count base 0 ws
+rows-none n es odd count base ws a j h l = absurd (omega arith)
 
 -- an earlier row ends before a later one
 earlier : (count base a i j : ℕ) → a < i → j < count → base + a * count + j < base + i * count
 earlier count base a i j h l = omega (arith, mul-le-mul-right {m = suc a} {n = i} count h)
 
-pub rows-turn : (n : ℕ) (es : List Edge) (odd : List ℕ) (count i : ℕ) (ws ws' : List Float) → Row n es odd count i ws ws' → Rows n es odd count i ws → Rows n es odd count (i + 1) ws'
-rows-turn n es odd count i ws ws' R S a j h l = elim (ℕ-discrete a i) [
+-- a change behind the first i rows leaves them
+pub rows-kept : (n : ℕ) (es : List Edge) (odd : List ℕ) (count base i : ℕ) (ws ws' : List Float) → SameBefore count base i ws ws' → Rows n es odd count base i ws → Rows n es odd count base i ws'
+rows-kept n es odd count base i ws ws' B S a j h l = B .same (base + a * count + j) (earlier count base a i j h l) ∙ S a j h l
+
+pub rows-turn : (n : ℕ) (es : List Edge) (odd : List ℕ) (count base i : ℕ) (ws ws' : List Float) → Row n es odd count base i ws ws' → Rows n es odd count base i ws → Rows n es odd count base (i + 1) ws'
+rows-turn n es odd count base i ws ws' R S a j h l = elim (ℕ-discrete a i) [
   | yes e ↦ rw e (R .right j l)
-  | no d ↦ R .before (2 ^ count + a * count + j) (earlier count (2 ^ count) a i j (omega arith) l) ∙ S a j (omega arith) l
+  | no d ↦ rows-kept n es odd count base i ws ws' (R .before) S a j (omega arith) l
 ]
+
+-- a row ends where the table does, or before
+pub row-ends : (count i : ℕ) → i < count → i * count + count ≤ count * count
+row-ends count i h = omega (arith, mul-le-mul-right {m = suc i} {n = count} count h)
+
+pub square-small : (count : ℕ) → count ≤ mostNodes → count * count ≤ 2353156
+square-small count h = omega (arith, mul-le-mul-right {m = count} {n = 1534} count h)

@@ -1,47 +1,66 @@
-// Greedy's pairs: the nearest two nodes of the working list, until two are left. Row i of the list has the
-// places after i, and `lows` has a lower bound of the squared distances in each row. A round finds the
-// least distance first, and then looks only at the rows whose bound does not rule them out.
+// The nearest two nodes of a working list, until two are left, by one of two costs: the squared distance of two nodes
+// (Greedy), or the bits of an f64 in a table of distances between the nodes, which are in the order of the floats.
+// Row i of the list has the places after i, and `lows` has a lower bound of the costs in each row. A round finds the
+// least cost first, and then looks only at the rows whose bound does not rule them out.
 ghost use mathlib.Core.Path.{_≡_};
-ghost use mathlib.Core.List.{map};
+ghost use mathlib.Core.Bool.{true};
 ghost use Prim.Native.Nat.{_+_, _-_, _^_, _<_, _≤_, _*_};
-ghost use lib.ListN.{getD, take, drop, set};
+ghost use lib.ListN.{length, getD, take, drop, set};
+ghost use lib.Dec.{ltb};
+ghost use lib.Ieee.{nan, binary64};
+ghost use Rattle.sums.specs.Key.{Nonneg};
 ghost use Rattle.grid.specs.Grid.{origin};
 ghost use Rattle.limits.specs.Limits.{mostNodes, mostPairs};
-ghost use Rattle.graph_spec.specs.Chain.{squared};
-ghost use Rattle.graph_arrays.specs.Arrays.{pointIn, nodesIn, NodesHeld};
+ghost use Rattle.graph_arrays.specs.Arrays.{nodesIn, NodesHeld};
 ghost use Rattle.graph_arrays.specs.NodeList.{NodeList};
-ghost use Rattle.repair_spec.specs.Pairing.{nothing, between, closer, closestTo, closest, greedyPairs};
+ghost use Rattle.repair_spec.specs.Pairing.{nothing, between, closer, closestTo, closest, nearestPairs, greedyPairs};
 ghost use Rattle.repair_spec.specs.PairsIn.{pairsIn, PairRoom};
-ghost use Rattle.repair_greedy.specs.Rows.{at, AtMost};
+ghost use Rattle.repair_greedy.specs.Costs.{costFrom, costIn, CostsHeld};
+ghost use Rattle.repair_greedy.specs.Rows.{AtMost};
 ghost use Rattle.repair_greedy.specs.Bounds.{Bounds};
-ghost use Rattle.repair_greedy.specs.Rounds.{Round};
+ghost use Rattle.repair_greedy.specs.Rounds.{Round, Paired};
 use limits::MOST_NODES;
 use limits::MOST_PAIRS;
 
-// Two places of the working list, and their squared distance.
+// Two places of the working list, and their cost.
 struct Nearest {
     from: usize,
     to: usize,
-    squared: u64,
+    cost: u64,
 }
 
-// The squared distance from px, py to the node v.
-fn distance_to(xs: &[u32; MOST_NODES], ys: &[u32; MOST_NODES], px: u32, py: u32, v: u16) -> u64
+// The cost from a node to the node v: the node lies at px, py, and its row of the table begins at `row`.
+fn cost_to(
+    xs: &[u32; MOST_NODES],
+    ys: &[u32; MOST_NODES],
+    table: &[f64],
+    places: &[u16; MOST_NODES],
+    tabled: bool,
+    px: u32,
+    py: u32,
+    row: usize,
+    v: u16,
+) -> u64
     requires { ⌜ (v < mostNodes) × (px ≤ 2 * origin) × (py ≤ 2 * origin) × NodesHeld mostNodes (now xs) (now ys) ⌝ }
-    ensures { λ r. ⌜ r ≡ squared (at px py) (pointIn (now (xs .entry)) (now (ys .entry)) v) ⌝ }
+    requires { ⌜ (tabled ≡ true → row + getD (now places) v 0 < length (now table)) × (tabled ≡ true → Nonneg binary64 (getD (now table) (row + getD (now places) v 0) nan)) ⌝ }
+    ensures { λ r. ⌜ r ≡ costFrom tabled (now (xs .entry)) (now (ys .entry)) (now (table .entry)) (now (places .entry)) px py row v ⌝ }
 {
     let u = widen::wide(v);
+    if tabled {
+        let at = row + widen::wide(places[u]);
+        return f64::to_bits(table[at]);
+    }
     let qx = xs[u];
     let qy = ys[u];
     length::squared(px, py, qx, qy)
 }
 
 // The nearer of the two: the second only where it is nearer.
-fn nearer(best: Nearest, from: usize, to: usize, squared: u64) -> Nearest
-    ensures { λ r. ⌜ between (r .from) (r .to) (r .squared) ≡ closer (between (best .from) (best .to) (best .squared)) from to squared ⌝ }
+fn nearer(best: Nearest, from: usize, to: usize, cost: u64) -> Nearest
+    ensures { λ r. ⌜ between (r .from) (r .to) (r .cost) ≡ closer ltb (between (best .from) (best .to) (best .cost)) from to cost ⌝ }
 {
-    if squared < best.squared {
-        return Nearest { from, to, squared };
+    if cost < best.cost {
+        return Nearest { from, to, cost };
     }
     best
 }
@@ -50,53 +69,62 @@ fn nearer(best: Nearest, from: usize, to: usize, squared: u64) -> Nearest
 fn scan_row(
     xs: &[u32; MOST_NODES],
     ys: &[u32; MOST_NODES],
+    table: &[f64],
+    places: &[u16; MOST_NODES],
+    size: usize,
+    tabled: bool,
     working: &[u16; MOST_NODES],
     left: usize,
     i: usize,
 ) -> Nearest
-    requires { ⌜ (i + 1 < left) × NodesHeld mostNodes (now xs) (now ys) × NodeList mostNodes mostNodes (now working) left ⌝ }
-    ensures { λ r. ⌜ closestTo (pointIn (now (xs .entry)) (now (ys .entry)) (getD (now (working .entry)) i 0)) i (drop (i + 1) (map (pointIn (now (xs .entry)) (now (ys .entry))) (take left (now (working .entry))))) (i + 1) nothing ≡ between (r .from) (r .to) (r .squared) ⌝ }
+    requires { ⌜ (i + 1 < left) × CostsHeld tabled (now xs) (now ys) (now table) (now places) size × NodeList mostNodes mostNodes (now working) left ⌝ }
+    ensures { λ r. ⌜ closestTo ltb (costIn tabled (now (xs .entry)) (now (ys .entry)) (now (table .entry)) (now (places .entry)) size) (getD (now (working .entry)) i 0) i (drop (i + 1) (take left (now (working .entry)))) (i + 1) nothing ≡ between (r .from) (r .to) (r .cost) ⌝ }
 {
     let u = widen::wide(working[i]);
     let px = xs[u];
     let py = ys[u];
+    let row = widen::wide(places[u]) * size;
     let mut j = i + 1;
-    let first = distance_to(xs, ys, px, py, working[j]);
-    let mut row = Nearest {
+    let first = cost_to(xs, ys, table, places, tabled, px, py, row, working[j]);
+    let mut near = Nearest {
         from: i,
         to: j,
-        squared: first,
+        cost: first,
     };
     j += 1;
     while j < left {
-        let d = distance_to(xs, ys, px, py, working[j]);
-        row = nearer(row, i, j, d);
+        let d = cost_to(xs, ys, table, places, tabled, px, py, row, working[j]);
+        near = nearer(near, i, j, d);
         j += 1;
     }
-    row
+    near
 }
 
 // The search goes on with row i, of `left` places: the nearest with those after i. The row is looked at only
-// where its bound is below what is in hand, and then its bound is its least distance.
+// where its bound is below what is in hand, and then its bound is its least cost.
 fn with_row(
     xs: &[u32; MOST_NODES],
     ys: &[u32; MOST_NODES],
+    table: &[f64],
+    places: &[u16; MOST_NODES],
+    size: usize,
+    tabled: bool,
     working: &[u16; MOST_NODES],
     lows: &mut [u64; MOST_NODES],
     left: usize,
     i: usize,
     best: Nearest,
 ) -> Nearest
-    requires { ⌜ (i + 1 < left) × NodesHeld mostNodes (now xs) (now ys) × NodeList mostNodes mostNodes (now working) left × Bounds (pointIn (now xs) (now ys)) (now working) left (now lows) ⌝ }
-    ensures { λ r. ⌜ (closestTo (pointIn (now (xs .entry)) (now (ys .entry)) (getD (now (working .entry)) i 0)) i (drop (i + 1) (map (pointIn (now (xs .entry)) (now (ys .entry))) (take left (now (working .entry))))) (i + 1) (between (best .from) (best .to) (best .squared)) ≡ between (r .from) (r .to) (r .squared)) × Bounds (pointIn (now (xs .entry)) (now (ys .entry))) (now (working .entry)) left (now (lows .exit)) ⌝ }
+    requires { ⌜ (i + 1 < left) × CostsHeld tabled (now xs) (now ys) (now table) (now places) size × NodeList mostNodes mostNodes (now working) left × Bounds (costIn tabled (now xs) (now ys) (now table) (now places) size) (now working) left (now lows) ⌝ }
+    ensures { λ r. ⌜ (closestTo ltb (costIn tabled (now (xs .entry)) (now (ys .entry)) (now (table .entry)) (now (places .entry)) size) (getD (now (working .entry)) i 0) i (drop (i + 1) (take left (now (working .entry)))) (i + 1) (between (best .from) (best .to) (best .cost)) ≡ between (r .from) (r .to) (r .cost)) × Bounds (costIn tabled (now (xs .entry)) (now (ys .entry)) (now (table .entry)) (now (places .entry)) size) (now (working .entry)) left (now (lows .exit)) ⌝ }
 {
     let low = lows[i];
-    if best.squared <= low {
+    if best.cost <= low {
         return best;
     }
-    let row = scan_row(xs, ys, working, left, i);
-    lows[i] = row.squared;
-    nearer(best, row.from, row.to, row.squared)
+    let row = scan_row(xs, ys, table, places, size, tabled, working, left, i);
+    lows[i] = row.cost;
+    nearer(best, row.from, row.to, row.cost)
 }
 
 // A row, and its bound.
@@ -138,74 +166,98 @@ fn least_row(lows: &[u64; MOST_NODES], left: usize) -> usize
     least.at
 }
 
-// Looks at row i, of `left` places: its bound is then its least distance, which is the answer. That it is at most 2^49
+// Looks at row i, of `left` places: its bound is then its least cost, which is the answer. That it is at most 2^63
 // leaves room for the one more that `find_closest` adds.
 fn look_at(
     xs: &[u32; MOST_NODES],
     ys: &[u32; MOST_NODES],
+    table: &[f64],
+    places: &[u16; MOST_NODES],
+    size: usize,
+    tabled: bool,
     working: &[u16; MOST_NODES],
     lows: &mut [u64; MOST_NODES],
     left: usize,
     i: usize,
 ) -> u64
-    requires { ⌜ (i + 1 < left) × NodesHeld mostNodes (now xs) (now ys) × NodeList mostNodes mostNodes (now working) left × Bounds (pointIn (now xs) (now ys)) (now working) left (now lows) ⌝ }
-    ensures { λ r. ⌜ AtMost (closest (map (pointIn (now (xs .entry)) (now (ys .entry))) (take left (now (working .entry)))) 0 nothing) r × (r ≤ 2 ^ 49) × Bounds (pointIn (now (xs .entry)) (now (ys .entry))) (now (working .entry)) left (now (lows .exit)) ⌝ }
+    requires { ⌜ (i + 1 < left) × CostsHeld tabled (now xs) (now ys) (now table) (now places) size × NodeList mostNodes mostNodes (now working) left × Bounds (costIn tabled (now xs) (now ys) (now table) (now places) size) (now working) left (now lows) ⌝ }
+    ensures { λ r. ⌜ AtMost (closest ltb (costIn tabled (now (xs .entry)) (now (ys .entry)) (now (table .entry)) (now (places .entry)) size) (take left (now (working .entry))) 0 nothing) r × (r ≤ 2 ^ 63) × Bounds (costIn tabled (now (xs .entry)) (now (ys .entry)) (now (table .entry)) (now (places .entry)) size) (now (working .entry)) left (now (lows .exit)) ⌝ }
 {
-    let row = scan_row(xs, ys, working, left, i);
-    lows[i] = row.squared;
-    row.squared
+    let row = scan_row(xs, ys, table, places, size, tabled, working, left, i);
+    lows[i] = row.cost;
+    row.cost
 }
 
-// A distance that two places have: that of a row whose bound is right and the least of all, so that it is the least distance.
+// A cost that two places have: that of a row whose bound is right and the least of all, so that it is the least cost.
 // Until there is one, the row of the least bound is looked at, which makes it right.
-// The proof uses only that two places have the distance: how near it is decides the time, and no answer.
-fn least_distance(
+// The proof uses only that two places have the cost: how low it is decides the time, and no answer.
+fn least_cost(
     xs: &[u32; MOST_NODES],
     ys: &[u32; MOST_NODES],
+    table: &[f64],
+    places: &[u16; MOST_NODES],
+    size: usize,
+    tabled: bool,
     working: &[u16; MOST_NODES],
     lows: &mut [u64; MOST_NODES],
     left: usize,
 ) -> u64
-    requires { ⌜ (2 ≤ left) × NodesHeld mostNodes (now xs) (now ys) × NodeList mostNodes mostNodes (now working) left × Bounds (pointIn (now xs) (now ys)) (now working) left (now lows) ⌝ }
-    ensures { λ r. ⌜ AtMost (closest (map (pointIn (now (xs .entry)) (now (ys .entry))) (take left (now (working .entry)))) 0 nothing) r × (r ≤ 2 ^ 49) × Bounds (pointIn (now (xs .entry)) (now (ys .entry))) (now (working .entry)) left (now (lows .exit)) ⌝ }
+    requires { ⌜ (2 ≤ left) × CostsHeld tabled (now xs) (now ys) (now table) (now places) size × NodeList mostNodes mostNodes (now working) left × Bounds (costIn tabled (now xs) (now ys) (now table) (now places) size) (now working) left (now lows) ⌝ }
+    ensures { λ r. ⌜ AtMost (closest ltb (costIn tabled (now (xs .entry)) (now (ys .entry)) (now (table .entry)) (now (places .entry)) size) (take left (now (working .entry))) 0 nothing) r × (r ≤ 2 ^ 63) × Bounds (costIn tabled (now (xs .entry)) (now (ys .entry)) (now (table .entry)) (now (places .entry)) size) (now (working .entry)) left (now (lows .exit)) ⌝ }
 {
     let mut i = least_row(lows, left);
-    let mut squared = look_at(xs, ys, working, lows, left, i);
+    let mut cost = look_at(xs, ys, table, places, size, tabled, working, lows, left, i);
     let mut turns = left;
     while turns > 0 {
         let least = least_row(lows, left);
         if least == i {
-            return squared;
+            return cost;
         }
         i = least;
-        squared = look_at(xs, ys, working, lows, left, i);
+        cost = look_at(xs, ys, table, places, size, tabled, working, lows, left, i);
         turns -= 1;
     }
-    squared
+    cost
 }
 
-// The nearest two of `left` places. What is in hand at the start is farther than the least distance, by one.
+// The nearest two of `left` places. What is in hand at the start is farther than the least cost, by one.
 fn find_closest(
     xs: &[u32; MOST_NODES],
     ys: &[u32; MOST_NODES],
+    table: &[f64],
+    places: &[u16; MOST_NODES],
+    size: usize,
+    tabled: bool,
     working: &[u16; MOST_NODES],
     lows: &mut [u64; MOST_NODES],
     left: usize,
 ) -> Nearest
-    requires { ⌜ (2 ≤ left) × NodesHeld mostNodes (now xs) (now ys) × NodeList mostNodes mostNodes (now working) left × Bounds (pointIn (now xs) (now ys)) (now working) left (now lows) ⌝ }
-    ensures { λ r. ⌜ (closest (map (pointIn (now (xs .entry)) (now (ys .entry))) (take left (now (working .entry)))) 0 nothing ≡ between (r .from) (r .to) (r .squared)) × (r .from < r .to) × (r .to < left) × Bounds (pointIn (now (xs .entry)) (now (ys .entry))) (now (working .entry)) left (now (lows .exit)) ⌝ }
+    requires { ⌜ (2 ≤ left) × CostsHeld tabled (now xs) (now ys) (now table) (now places) size × NodeList mostNodes mostNodes (now working) left × Bounds (costIn tabled (now xs) (now ys) (now table) (now places) size) (now working) left (now lows) ⌝ }
+    ensures { λ r. ⌜ (closest ltb (costIn tabled (now (xs .entry)) (now (ys .entry)) (now (table .entry)) (now (places .entry)) size) (take left (now (working .entry))) 0 nothing ≡ between (r .from) (r .to) (r .cost)) × (r .from < r .to) × (r .to < left) × Bounds (costIn tabled (now (xs .entry)) (now (ys .entry)) (now (table .entry)) (now (places .entry)) size) (now (working .entry)) left (now (lows .exit)) ⌝ }
 {
-    let least = least_distance(xs, ys, working, lows, left);
+    let least = least_cost(xs, ys, table, places, size, tabled, working, lows, left);
     let farther = least + 1;
     let mut best = Nearest {
         from: 0,
         to: 1,
-        squared: farther,
+        cost: farther,
     };
     let last = left - 1;
     let mut i = 0;
     while i < last {
-        best = with_row(xs, ys, working, lows, left, i, best);
+        best = with_row(
+            xs,
+            ys,
+            table,
+            places,
+            size,
+            tabled,
+            working,
+            lows,
+            left,
+            i,
+            best,
+        );
         i += 1;
     }
     best
@@ -229,6 +281,10 @@ fn remove_place(
 fn pair_nearest(
     xs: &[u32; MOST_NODES],
     ys: &[u32; MOST_NODES],
+    table: &[f64],
+    places: &[u16; MOST_NODES],
+    size: usize,
+    tabled: bool,
     working: &mut [u16; MOST_NODES],
     lows: &mut [u64; MOST_NODES],
     firsts: &mut [u16; MOST_PAIRS],
@@ -236,16 +292,58 @@ fn pair_nearest(
     left: usize,
     count: usize,
 )
-    requires { ⌜ (2 < left) × (count < mostPairs) × NodesHeld mostNodes (now xs) (now ys) × NodeList mostNodes mostNodes (now working) left × Bounds (pointIn (now xs) (now ys)) (now working) left (now lows) ⌝ }
-    ensures { λ _. ⌜ Bounds (pointIn (now (xs .entry)) (now (ys .entry))) (now (working .exit)) (left - 2) (now (lows .exit)) × Round (pointIn (now (xs .entry)) (now (ys .entry))) left count (now (working .entry)) (now (working .exit)) (now (firsts .entry)) (now (firsts .exit)) (now (seconds .entry)) (now (seconds .exit)) ⌝ }
+    requires { ⌜ (2 < left) × (count < mostPairs) × CostsHeld tabled (now xs) (now ys) (now table) (now places) size × NodeList mostNodes mostNodes (now working) left × Bounds (costIn tabled (now xs) (now ys) (now table) (now places) size) (now working) left (now lows) ⌝ }
+    ensures { λ _. ⌜ Bounds (costIn tabled (now (xs .entry)) (now (ys .entry)) (now (table .entry)) (now (places .entry)) size) (now (working .exit)) (left - 2) (now (lows .exit)) × Round (costIn tabled (now (xs .entry)) (now (ys .entry)) (now (table .entry)) (now (places .entry)) size) left count (now (working .entry)) (now (working .exit)) (now (firsts .entry)) (now (firsts .exit)) (now (seconds .entry)) (now (seconds .exit)) ⌝ }
 {
-    let near = find_closest(xs, ys, working, lows, left);
+    let near = find_closest(xs, ys, table, places, size, tabled, working, lows, left);
     let i = near.from;
     let j = near.to;
     firsts[count] = working[i];
     seconds[count] = working[j];
     remove_place(working, lows, left - 1, j);
     remove_place(working, lows, left - 2, i);
+}
+
+// The nearest two of the first `count` nodes of the working list, until two are left, by the squared distances or by the
+// table: the distance from the node u to the node v stands at places[u] * size + places[v]. The answer is the number of
+// pairs, which stand in `firsts` and `seconds`; what stands behind them there is left open, and the list is used up.
+pub fn nearest_pairs(
+    xs: &[u32; MOST_NODES],
+    ys: &[u32; MOST_NODES],
+    table: &[f64],
+    places: &[u16; MOST_NODES],
+    size: usize,
+    tabled: bool,
+    working: &mut [u16; MOST_NODES],
+    count: usize,
+    firsts: &mut [u16; MOST_PAIRS],
+    seconds: &mut [u16; MOST_PAIRS],
+) -> usize
+    requires { ⌜ CostsHeld tabled (now xs) (now ys) (now table) (now places) size × NodeList mostNodes mostNodes (now working) count × PairRoom (now firsts) (now seconds) ⌝ }
+    ensures { λ r. ⌜ (pairsIn (now (firsts .exit)) (now (seconds .exit)) 0 r ≡ nearestPairs ltb count (costIn tabled (now (xs .entry)) (now (ys .entry)) (now (table .entry)) (now (places .entry)) size) (take count (now (working .entry)))) × Paired (now (firsts .exit)) (now (seconds .exit)) r ⌝ }
+{
+    let mut lows = [0u64; MOST_NODES];
+    let mut left = count;
+    let mut pairs = 0;
+    while 2 < left {
+        pair_nearest(
+            xs,
+            ys,
+            table,
+            places,
+            size,
+            tabled,
+            working,
+            &mut lows,
+            firsts,
+            seconds,
+            left,
+            pairs,
+        );
+        left -= 2;
+        pairs += 1;
+    }
+    pairs
 }
 
 // Greedy's pairs of the first `count` nodes of `odd`, of n nodes; two nodes are left over. The answer is the
@@ -261,15 +359,20 @@ pub fn greedy_pairs(
     seconds: &mut [u16; MOST_PAIRS],
 ) -> usize
     requires { ⌜ NodesHeld n (now xs) (now ys) × NodeList n mostNodes (now odd) count × PairRoom (now firsts) (now seconds) ⌝ }
-    ensures { λ r. ⌜ pairsIn (now (firsts .exit)) (now (seconds .exit)) 0 r ≡ greedyPairs count (nodesIn n (now (xs .entry)) (now (ys .entry))) (take count (now (odd .entry))) ⌝ }
+    ensures { λ r. ⌜ (pairsIn (now (firsts .exit)) (now (seconds .exit)) 0 r ≡ greedyPairs count (nodesIn n (now (xs .entry)) (now (ys .entry))) (take count (now (odd .entry)))) × Paired (now (firsts .exit)) (now (seconds .exit)) r ⌝ }
 {
-    let mut lows = [0u64; MOST_NODES];
-    let mut left = count;
-    let mut pairs = 0;
-    while 2 < left {
-        pair_nearest(xs, ys, odd, &mut lows, firsts, seconds, left, pairs);
-        left -= 2;
-        pairs += 1;
-    }
-    pairs
+    let places = [0u16; MOST_NODES];
+    let none = [0.0f64; 1];
+    nearest_pairs(
+        xs,
+        ys,
+        &none,
+        &places,
+        1,
+        false,
+        odd,
+        count,
+        firsts,
+        seconds,
+    )
 }

@@ -28,11 +28,11 @@ together-then n ds t ds' t' ds'' t'' f g w l = elim (g w l) [
   | inr q ↦ elim (f w l) [ inl p ↦ inr (q .0, rw (p .0) at (q .1)) | inr p ↦ inr (q .0, omega (arith, q .1, p .1)) ]
 ]
 
-improve-lower : (ds : List Float) (v : ℕ) (c : Float) → lt c (distanceAt ds v) ≡ true → improve ds v c ≡ set ds v c
+pub improve-lower : (ds : List Float) (v : ℕ) (c : Float) → lt c (distanceAt ds v) ≡ true → improve ds v c ≡ set ds v c
 unfolding improve
 improve-lower ds v c h = ap (λ (b : Bool). elim b [ true ↦ set ds v c | false ↦ ds ]) h
 
-improve-not : (ds : List Float) (v : ℕ) (c : Float) → lt c (distanceAt ds v) ≡ false → improve ds v c ≡ ds
+pub improve-not : (ds : List Float) (v : ℕ) (c : Float) → lt c (distanceAt ds v) ≡ false → improve ds v c ≡ ds
 unfolding improve
 improve-not ds v c h = ap (λ (b : Bool). elim b [ true ↦ set ds v c | false ↦ ds ]) h
 

@@ -182,7 +182,7 @@ pub record Progress (n : ℕ) (es : List Edge) (s left : ℕ) (ds t : List Float
   pub held : Held n ds t
   pub search : Searching n es s left ds t
 
-start-nonneg : (N s : ℕ) → AllNonneg (set (replicate N infinity) s zeroLength)
+pub start-nonneg : (N s : ℕ) → AllNonneg (set (replicate N infinity) s zeroLength)
 start-nonneg N s v = elim (set-cases (replicate N infinity) s zeroLength infinity v) [ inl p ↦ rw (p .1) (zero-nonneg binary64) | inr q ↦ rw (q ∙ getD-same N v infinity) (inf-nonneg binary64) ]
 
 -- the tournament with a value taken out goes with the same distances

@@ -21,7 +21,7 @@ use limits::EDGE_ROOM;
 use limits::MOST_NODES;
 
 // Lists v, of which a distance is known now, where none was known before; the answer is how many nodes are listed.
-fn touch(
+pub fn touch(
     dist: &[f64; MOST_NODES],
     touched: &mut [u16; MOST_NODES],
     n: usize,

@@ -1,4 +1,5 @@
 -- Laws of the definitions in specs/.
+pub mod Alike
 pub mod Along
 pub mod Applied
 pub mod Copies
@@ -7,6 +8,7 @@ pub mod Examples
 pub mod Least
 pub mod Matched
 pub mod Nearest
+pub mod NoDearer
 pub mod Pairs
 pub mod PairsIn
 pub mod Relax

@@ -4,19 +4,19 @@ use native.Mathlib.Omega.{arith}
 use native.Mathlib.Nat.{le-of-suc-le-suc}
 use mathlib.Core.Path.{_≡_, refl, ap, _∙_}
 use mathlib.Core.Logic.{inl, inr}
-use mathlib.Core.List.{List, [], _∷_, map}
+use mathlib.Core.List.{List, [], _∷_}
 use mathlib.Core.Bool.{Bool, true, false}
-use lib.ListN.{length, getD, take, set, length-take, length-set, length-map}
+use lib.ListN.{length, getD, take, set, length-take, length-set}
 use lib.Seq.{getD-set-other, getD-take}
 use lib.Dec.{ltb}
+use lib.Ieee.{Float, lt, le}
 use borrow.Author.Tests.{ltb-true, ltb-false}
-use Rattle.drawing_spec.specs.Drawing.{Point, noPoint}
+use Rattle.drawing_spec.specs.Drawing.{Point}
 use Rattle.lists.proofs.Members.{either}
 use Rattle.lists.proofs.Elements.{set-cases}
-use Rattle.graph_spec.specs.Chain.{squared}
 use Rattle.graph_spec.specs.Odd.{hit}
 use Rattle.graph_spec.proofs.Occurs.{count}
-use Rattle.repair_spec.specs.Pairing.{Pair, pair, Closest, nothing, between, closer, closestTo, closest, swapRemove, greedyPairs}
+use Rattle.repair_spec.specs.Pairing.{Pair, pair, Closest, nothing, between, closer, closestTo, closest, swapRemove, nearestPairs, apart, greedyPairs, graphPairs, costOf, lessCostly, busyPairs}
 
 -- both nodes of every pair
 unfoldable pub ends : List Pair → List ℕ
@@ -72,35 +72,37 @@ pub swap-before : (vs : List ℕ) (i j : ℕ) → i < j → j < length vs → ge
 unfolding swapRemove
 swap-before vs i j h k = getD-take (length vs - 1) _ i 0 (omega arith) ∙ getD-set-other vs j i _ 0 (omega arith)
 
--- ---- Greedy
+-- ---- the nearest two
 
 -- two places in order, below n
-abbrev pub Places : ℕ → Closest → Type 0
+abbrev pub Places : {A : Type 0} → ℕ → Closest A → Type 0
 Places n nothing = ⊥
 Places n (between i j d) = (i < j) × (j < n)
 
-closer-places : (n : ℕ) (best : Closest) (i j d : ℕ) → i < j → j < n → Places n best → Places n (closer best i j d)
-unfolding closer
-closer-places n nothing i j d h k p = absurd p
-closer-places n (between i' j' d') i j d h k p = either (Places n) (between i j d) (between i' j' d') (h, k) p (ltb d d')
+module _ {A : Type 0} (less : A → A → Bool) where
+  closer-places : (n : ℕ) (best : Closest A) (i j : ℕ) (d : A) → i < j → j < n → Places n best → Places n (closer less best i j d)
+  unfolding closer
+  closer-places n nothing i j d h k p = absurd p
+  closer-places n (between i' j' d') i j d h k p = either (Places n) (between i j d) (between i' j' d') (h, k) p (less d d')
 
-to-places : (n : ℕ) (p : Point) (i : ℕ) (qs : List Point) (j : ℕ) (best : Closest) → i < j → j + length qs ≤ n → Places n best → Places n (closestTo p i qs j best)
-unfolding closestTo
-to-places n p i [] j best h k b = b
-to-places n p i (q ∷ qs) j best h k b = to-places n p i qs (suc j) _ (omega arith) (omega arith) (closer-places n best i j (squared p q) h (omega arith) b)
+  module _ (cost : ℕ → ℕ → A) where
+    to-places : (n u i : ℕ) (vs : List ℕ) (j : ℕ) (best : Closest A) → i < j → j + length vs ≤ n → Places n best → Places n (closestTo less cost u i vs j best)
+    unfolding closestTo
+    to-places n u i [] j best h k b = b
+    to-places n u i (v ∷ vs) j best h k b = to-places n u i vs (suc j) _ (omega arith) (omega arith) (closer-places n best i j (cost u v) h (omega arith) b)
 
-from-places : (n : ℕ) (ps : List Point) (i : ℕ) (best : Closest) → i + length ps ≤ n → Places n best → Places n (closest ps i best)
-unfolding closest
-from-places n [] i best k b = b
-from-places n (p ∷ ps) i best k b = from-places n ps (suc i) _ (omega arith) (to-places n p i ps (suc i) best (omega arith) (omega arith) b)
+    from-places : (n : ℕ) (us : List ℕ) (i : ℕ) (best : Closest A) → i + length us ≤ n → Places n best → Places n (closest less cost us i best)
+    unfolding closest
+    from-places n [] i best k b = b
+    from-places n (u ∷ us) i best k b = from-places n us (suc i) _ (omega arith) (to-places n u i us (suc i) best (omega arith) (omega arith) b)
 
--- of two points or more some two are the closest
-pub closest-places : (ps : List Point) → 2 ≤ length ps → Places (length ps) (closest ps 0 nothing)
-unfolding closest closestTo closer
-closest-places [] h = absurd (omega arith)
-closest-places (p ∷ []) h = absurd (omega arith)
-closest-places (p ∷ q ∷ ps) h =
-    from-places _ (q ∷ ps) 1 _ (omega arith) (to-places _ p 0 ps 2 (between 0 1 (squared p q)) (omega arith) (omega arith) (omega arith, omega arith))
+    -- of two nodes or more some two are the closest
+    pub closest-places : (vs : List ℕ) → 2 ≤ length vs → Places (length vs) (closest less cost vs 0 nothing)
+    unfolding closest closestTo closer
+    closest-places [] h = absurd (omega arith)
+    closest-places (u ∷ []) h = absurd (omega arith)
+    closest-places (u ∷ v ∷ vs) h =
+        from-places _ (v ∷ vs) 1 _ (omega arith) (to-places _ u 0 vs 2 (between 0 1 (cost u v)) (omega arith) (omega arith) (omega arith, omega arith))
 
 -- two nodes are left
 two-left : (vs : List ℕ) → length vs ≡ 2 → AllButTwo vs []
@@ -126,28 +128,37 @@ one-more vs i j ps h k r = record {
   );
 }
 
--- Greedy uses all nodes but two, for k at least the number of nodes
+-- The nearest two, again and again, use all nodes but two, for k at least the number of nodes.
+module _ {A : Type 0} (less : A → A → Bool) (cost : ℕ → ℕ → A) where
+  pub nearest-pairs : (k : ℕ) (vs : List ℕ) → length vs ≤ k → 2 ≤ length vs → length vs % 2 ≡ 0 → AllButTwo vs (nearestPairs less k cost vs)
+  unfolding nearestPairs
+  nearest-pairs zero vs h l e = absurd (omega arith)
+  nearest-pairs (suc k) vs h l e = go (ltb 2 (length vs)) refl (closest less cost vs 0 nothing) (closest-places less cost vs l) (nearest-pairs k)
+    where
+      go : (t : Bool) → ltb 2 (length vs) ≡ t → (c : Closest A) → Places (length vs) c
+          → ((ws : List ℕ) → length ws ≤ k → 2 ≤ length ws → length ws % 2 ≡ 0 → AllButTwo ws (nearestPairs less k cost ws))
+          → AllButTwo vs (elim t [
+            | false ↦ []
+            | true ↦ elim c [
+              | nothing ↦ []
+              | between i j d ↦ pair (getD vs i 0) (getD vs j 0) ∷ nearestPairs less k cost (swapRemove (swapRemove vs j) i)
+            ]
+          ])
+      go false b c p r = two-left vs (omega (arith, ltb-false 2 (length vs) b))
+      go true b nothing p r = absurd p
+      go true b (between i j d) p r =
+          let m : 2 < length vs = ltb-true 2 (length vs) b in
+          let n : length (swapRemove (swapRemove vs j) i) ≡ length vs - 2 = omega (arith, swap-length (swapRemove vs j) i, swap-length vs j) in
+          one-more vs i j _ (p .0) (p .1) (r _ (omega arith) (omega arith) (omega arith))
+
+-- Greedy does
 pub greedy-pairs : (k : ℕ) (ns : List Point) (vs : List ℕ) → length vs ≤ k → 2 ≤ length vs → length vs % 2 ≡ 0 → AllButTwo vs (greedyPairs k ns vs)
 unfolding greedyPairs
-greedy-pairs zero ns vs h l e = absurd (omega arith)
-greedy-pairs (suc k) ns vs h l e =
-    go (ltb 2 (length vs)) refl (closest (map (λ (v : ℕ). getD ns v noPoint) vs) 0 nothing) places (greedy-pairs k ns)
-  where
-    places : Places (length vs) (closest (map (λ (v : ℕ). getD ns v noPoint) vs) 0 nothing)
-    places = rw length-map at (closest-places (map (λ (v : ℕ). getD ns v noPoint) vs) (rw length-map l))
+greedy-pairs k ns vs h l e = nearest-pairs ltb (apart ns) k vs h l e
 
-    go : (t : Bool) → ltb 2 (length vs) ≡ t → (c : Closest) → Places (length vs) c
-        → ((ws : List ℕ) → length ws ≤ k → 2 ≤ length ws → length ws % 2 ≡ 0 → AllButTwo ws (greedyPairs k ns ws))
-        → AllButTwo vs (elim t [
-          | false ↦ []
-          | true ↦ elim c [
-            | nothing ↦ []
-            | between i j d ↦ pair (getD vs i 0) (getD vs j 0) ∷ greedyPairs k ns (swapRemove (swapRemove vs j) i)
-          ]
-        ])
-    go false b c p r = two-left vs (omega (arith, ltb-false 2 (length vs) b))
-    go true b nothing p r = absurd p
-    go true b (between i j d) p r =
-        let m : 2 < length vs = ltb-true 2 (length vs) b in
-        let n : length (swapRemove (swapRemove vs j) i) ≡ length vs - 2 = omega (arith, swap-length (swapRemove vs j) i, swap-length vs j) in
-        one-more vs i j _ (p .0) (p .1) (r _ (omega arith) (omega arith) (omega arith))
+-- and so does the better of Greedy and the nearest by graph distance
+pub busy-pairs : (ns : List Point) (d : ℕ → ℕ → Float) (vs : List ℕ) → 2 ≤ length vs → length vs % 2 ≡ 0 → AllButTwo vs (busyPairs ns d vs)
+unfolding busyPairs lessCostly graphPairs
+busy-pairs ns d vs l e =
+    either (AllButTwo vs) _ _ (greedy-pairs (length vs) ns vs (omega arith) l e) (nearest-pairs lt d (length vs) vs (omega arith) l e)
+    (le (costOf d (greedyPairs (length vs) ns vs)) (costOf d (graphPairs d vs)))

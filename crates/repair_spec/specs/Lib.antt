@@ -8,7 +8,7 @@ pub mod Copies
 -- which nodes are paired, by Greedy and by Optimal:
 pub mod Pairing
 pub mod PairsIn
--- fix_parity, of these, and conditions 10 and 11:
+-- fix_parity, of these, and condition 11:
 pub mod Repair
 -- Predicates that contracts and laws name: the least cost of all ways, what a search keeps to, and what it finds up to a limit:
 pub mod Cost

@@ -1,10 +1,10 @@
 -- Which odd nodes are paired.
 use Prim.Native.Nat.{ℕ, zero, suc, _-_}
-use mathlib.Core.List.{List, [], _∷_, map}
-use mathlib.Core.Bool.{true, false}
+use mathlib.Core.List.{List, [], _∷_}
+use mathlib.Core.Bool.{Bool, true, false}
 use lib.ListN.{length, getD, take, set}
 use lib.Dec.{eqb, ltb}
-use lib.Ieee.{Float, binary64, add, lt}
+use lib.Ieee.{Float, binary64, add, lt, le}
 use Rattle.drawing_spec.specs.Drawing.{Point, noPoint}
 use Rattle.graph_spec.specs.Chain.{squared}
 use Rattle.repair_spec.specs.Distance.{zeroLength}
@@ -17,28 +17,28 @@ pub record Pair : Type 0 where
 abbrev pub pair : ℕ → ℕ → Pair
 pair u v = record { from = u; to = v }
 
--- ---- Greedy: the nearest pair of the working list, first on ties. On the grid the order of squared distances is the order of lengths (Rattle.length).
+-- ---- the nearest two nodes of a working list, first on ties. What two nodes cost, and which of two costs is less, is the caller's. The cost runs from the node that stands first in the list.
 
-pub data Closest : Type 0 where
-  nothing : Closest
-  between : ℕ → ℕ → ℕ → Closest
+pub data Closest (A : Type 0) : Type 0 where
+  nothing : Closest A
+  between : ℕ → ℕ → A → Closest A
 
--- the places i and j at the squared distance d, where that is less
-unfoldable pub closer : Closest → ℕ → ℕ → ℕ → Closest
-closer nothing i j d = between i j d
-closer (between i' j' d') i j d = elim (ltb d d') [ true ↦ between i j d | false ↦ between i' j' d' ]
+-- the places i and j at the cost d, where that is less
+unfoldable pub closer : {A : Type 0} → (A → A → Bool) → Closest A → ℕ → ℕ → A → Closest A
+closer less nothing i j d = between i j d
+closer less (between i' j' d') i j d = elim (less d d') [ true ↦ between i j d | false ↦ between i' j' d' ]
 
--- the point p at the place i with each of those from the place j on
-unfoldable pub closestTo : Point → ℕ → List Point → ℕ → Closest → Closest
+-- the node u at the place i with each of those from the place j on
+unfoldable pub closestTo : {A : Type 0} → (A → A → Bool) → (ℕ → ℕ → A) → ℕ → ℕ → List ℕ → ℕ → Closest A → Closest A
 unfolding closer
-closestTo p i [] j best = best
-closestTo p i (q ∷ qs) j best = closestTo p i qs (suc j) (closer best i j (squared p q))
+closestTo less cost u i [] j best = best
+closestTo less cost u i (v ∷ vs) j best = closestTo less cost u i vs (suc j) (closer less best i j (cost u v))
 
--- each point from the place i on with those after it
-unfoldable pub closest : List Point → ℕ → Closest → Closest
+-- each node from the place i on with those after it
+unfoldable pub closest : {A : Type 0} → (A → A → Bool) → (ℕ → ℕ → A) → List ℕ → ℕ → Closest A → Closest A
 unfolding closestTo
-closest [] i best = best
-closest (p ∷ ps) i best = closest ps (suc i) (closestTo p i ps (suc i) best)
+closest less cost [] i best = best
+closest less cost (u ∷ vs) i best = closest less cost vs (suc i) (closestTo less cost u i vs (suc i) best)
 
 -- the list without the first v in it, the others in order
 unfoldable pub without : ℕ → List ℕ → List ℕ
@@ -50,17 +50,26 @@ unfoldable pub swapRemove : List ℕ → ℕ → List ℕ
 swapRemove vs i = let n = length vs - 1 in take n (set vs i (getD vs n 0))
 
 -- pairs until two nodes are left; k is at least the number of nodes
-unfoldable pub greedyPairs : ℕ → List Point → List ℕ → List Pair
+unfoldable pub nearestPairs : {A : Type 0} → (A → A → Bool) → ℕ → (ℕ → ℕ → A) → List ℕ → List Pair
 unfolding closest swapRemove
-greedyPairs zero ns vs = []
-greedyPairs (suc k) ns vs =
+nearestPairs less zero cost vs = []
+nearestPairs less (suc k) cost vs =
     elim (ltb 2 (length vs)) [
       | false ↦ []
-      | true ↦ elim (closest (map (λ (v : ℕ). getD ns v noPoint) vs) 0 nothing) [
+      | true ↦ elim (closest less cost vs 0 nothing) [
         | nothing ↦ []
-        | between i j d ↦ pair (getD vs i 0) (getD vs j 0) ∷ greedyPairs k ns (swapRemove (swapRemove vs j) i)
+        | between i j d ↦ pair (getD vs i 0) (getD vs j 0) ∷ nearestPairs less k cost (swapRemove (swapRemove vs j) i)
       ]
     ]
+
+-- ---- Greedy: by squared distances. On the grid their order is the order of lengths (Rattle.length).
+
+abbrev pub apart : List Point → ℕ → ℕ → ℕ
+apart ns u v = squared (getD ns u noPoint) (getD ns v noPoint)
+
+unfoldable pub greedyPairs : ℕ → List Point → List ℕ → List Pair
+unfolding nearestPairs
+greedyPairs k ns vs = nearestPairs ltb k (apart ns) vs
 
 -- ---- Optimal: each two nodes are left out in turn, and of the others the first is paired with each other one in turn; a choice is kept until a later one costs less, by rounded sums
 
@@ -116,3 +125,28 @@ leaveTwo k d all (u ∷ later) best = leaveTwo k d all later (leaveWith k d (wit
 unfoldable pub optimalPairs : (ℕ → ℕ → Float) → List ℕ → List Pair
 unfolding leaveTwo
 optimalPairs d vs = choiceOf (leaveTwo (length vs) d vs vs none) .pairs
+
+-- ---- Optimal for more nodes than it compares all choices of: Greedy's pairs, or the nearest two by graph distance again and again; Greedy's where they cost no more
+
+unfoldable pub graphPairs : (ℕ → ℕ → Float) → List ℕ → List Pair
+unfolding nearestPairs lt
+graphPairs d vs = nearestPairs lt (length vs) d vs
+
+-- x and then the distance of each pair, from its first node to its second, each sum rounded
+unfoldable pub addPairs : (ℕ → ℕ → Float) → List Pair → Float → Float
+unfolding add
+addPairs d [] x = x
+addPairs d (p ∷ ps) x = addPairs d ps (add binary64 x (d (p .from) (p .to)))
+
+unfoldable pub costOf : (ℕ → ℕ → Float) → List Pair → Float
+unfolding addPairs
+costOf d ps = addPairs d ps zeroLength
+
+-- ps where they cost no more than qs
+unfoldable pub lessCostly : (ℕ → ℕ → Float) → List Pair → List Pair → List Pair
+unfolding costOf le
+lessCostly d ps qs = elim (le (costOf d ps) (costOf d qs)) [ true ↦ ps | false ↦ qs ]
+
+unfoldable pub busyPairs : List Point → (ℕ → ℕ → Float) → List ℕ → List Pair
+unfolding greedyPairs graphPairs lessCostly
+busyPairs ns d vs = lessCostly d (greedyPairs (length vs) ns vs) (graphPairs d vs)

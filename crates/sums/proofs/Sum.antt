@@ -47,7 +47,7 @@ module _ (f : Format) where
   lt-or-eq : (a b : ℕ) → T (ltb a b || (eqb a b && true)) → a ≤ b
   lt-or-eq a b t = elim (either (ltb a b) (eqb a b && true) t) [ inl u ↦ le-of-lt (ltb→lt a b u) | inr u ↦ le-of-eq (eqb→eq a b (and-l (eqb a b) true u)) ]
 
-  le→key : (x y : Float) → Nonneg f x → Nonneg f y → T (le x y) → key f x ≤ key f y
+  pub le→key : (x y : Float) → Nonneg f x → Nonneg f y → T (le x y) → key f x ≤ key f y
   unfolding le
   le→key =
       any-two f (λ (x y : Float). T (le x y) → key f x ≤ key f y)

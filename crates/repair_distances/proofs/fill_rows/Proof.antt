@@ -1,70 +1,29 @@
 -- `repair_distances::fill_rows` meets its contract.
-use Prim.Native.Nat.{ℕ, _≤_, _-_}
 use native.Mathlib.Omega.{arith}
-use mathlib.Core.Path.{_≡_, subst}
-use lib.ListN.{length}
-use Rattle.graph_adjacency.specs.Lists.{adjacency}
-use Rattle.graph_arrays.specs.Arrays.{edgesIn}
-use Rattle.repair_search.specs.Touched.{Unreached}
-use Rattle.repair_search.proofs.Touched.{unreached-new}
-use Rattle.repair_distances.specs.Rows.{Rows}
-use Rattle.repair_distances.proofs.Rows.{rows-none, rows-turn}
 use borrow.Author.Needs.{needs}
 use Rattle.repair_distances.proofs.fill_rows.Statement.{statement}
 use Rattle.repair_distances.proofs.fill_rows.Tie as tie
 
-abbrev Inv-loop : tie.InvT-loop
-Inv-loop ends weights next heads n m odd count table₀ infinity dist₀ tree₀ touched₀ i₀ table dist tree touched i =
-    (i ≤ count) × (length table ≡ length table₀) × Rows n (edgesIn m (adjacency ends weights next heads)) odd count i table × Unreached n dist tree touched
+sweep-rows-requires : tie.Need-sweep-rows-requires
+sweep-rows-requires c κs = search needs
 
-abbrev μ-loop : tie.MeasureT-loop
-μ-loop ends weights next heads n m odd count table₀ infinity dist₀ tree₀ touched₀ i₀ table dist tree touched i = count - i
+search-rows-requires : tie.Need-search-rows-requires
+search-rows-requires c κs =
+    let w = c .before .before .before .before in
+    let b = w .before .before .before in
+    (b .pre .0, ((b .pre .1 .0, b .pre .1 .1, search needs), w .sweep-rows .ensures))
 
-infinity-requires : tie.Need-infinity-requires Inv-loop μ-loop
-infinity-requires c κs = search needs
-
-loop-holds : tie.Need-loop-holds Inv-loop μ-loop
-loop-holds c =
-    let b = c .before .before in
-    (search needs, search needs, rows-none _ _ (b .args .odd .now) _ (b .args .table .now), unreached-new (b .args .n) (b .pre .0 .edges .few-nodes) (c .infinity .result) (c .infinity .ensures))
-
-fill-row-requires : tie.Need-fill-row-requires Inv-loop μ-loop
-fill-row-requires c κs =
-    let l = c .before .before .before .before .before in
-    let b = l .before .before .before in
-    (l .loop .inv .3, (b .pre .0, (b .pre .1 .0, c .before .before .before .before .loop-test .taken, b .pre .1 .1, omega (arith, l .loop .inv .1, b .pre .1 .2))))
-
-add-i : tie.Need-add-i Inv-loop μ-loop
-add-i c = search needs
-
-loop-less : tie.Need-loop-less Inv-loop μ-loop
-loop-less c = search needs
-
-loop-again : tie.Need-loop-again Inv-loop μ-loop
-loop-again c =
-    let f = c .before .before in
-    (search needs, search needs, rows-turn _ _ _ _ _ _ _ (f .fill-row .ensures .0) (f .before .before .before .before .before .before .loop .inv .2), f .fill-row .ensures .1)
-
-same-length : tie.Need-same-length Inv-loop μ-loop
+same-length : tie.Need-same-length
 same-length c = search needs
 
-returns : tie.Need-returns Inv-loop μ-loop
-returns c =
-    let a = c .before .before .before .before .args in
-    let all : c .before .loop .i ≡ a .count = omega (arith, c .before .loop .inv .0, c .loop-test .left) in
-    subst (λ (k : ℕ). Rows (a .n) (edgesIn (a .m) (adjacency (a .ends .now) (a .weights .now) (a .next .now) (a .heads .now))) (a .odd .now) (a .count) k (c .before .loop .table)) all (c .before .loop .inv .2)
+returns : tie.Need-returns
+returns c = search needs
+
+same-length-2 : tie.Need-same-length-2
+same-length-2 c = search needs
+
+returns-2 : tie.Need-returns-2
+returns-2 c = λ i j h l. c .before .before .before .sweep-rows .ensures .1 i j (omega (arith, c .if1 .left)) l
 
 pub fill-rows-spec : {M : Type 1} → statement M
-fill-rows-spec =
-    tie.close
-    (tie.spec
-    Inv-loop
-    μ-loop
-    infinity-requires
-    loop-holds
-    fill-row-requires
-    add-i
-    loop-less
-    loop-again
-    same-length
-    returns)
+fill-rows-spec = tie.close (tie.spec sweep-rows-requires search-rows-requires same-length returns same-length-2 returns-2)
