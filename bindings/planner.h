@@ -42,8 +42,13 @@ enum planner_refusal {
 };
 
 /* Sizes to lend. Only optimal pairing needs tables, from 4 odd points on: for a drawing with n of them 2^n + n*n floats and
- * 2^n bytes, and where n is above PLANNER_MOST_OPTIMAL n*n floats and no bytes. Up to PLANNER_MOST_OPTIMAL odd points all choices
- * of pairs are compared; a drawing has at most PLANNER_MOST_ODD.
+ * 2^n bytes, and where n is above PLANNER_MOST_OPTIMAL n*n floats and no bytes. A drawing has at most PLANNER_MOST_ODD.
+ *
+ * With 4 to PLANNER_MOST_OPTIMAL odd points optimal pairing compares all choices of pairs, and none that leaves two points out
+ * costs less than the one taken. A pair costs the least distance along the strokes from its earlier point in the drawing to its
+ * later; the pairs are added from 0.0 on, in falling order of their earlier points, each sum rounded. What PLANNER_CLOSE adds is
+ * not in that sum; `retrace` is added piece by piece, along ways that fit the least distances within 1e-10, so it can differ from
+ * it by that little; and with more odd points nothing of the kind is promised (docs/DRAWING-FILE.md, 'The line').
  *
  * Tables of PLANNER_ENOUGH_FLOATS and PLANNER_ENOUGH_BYTES (8.4 MB and 1 MB) are enough for every drawing: whoever lends these
  * is never given PLANNER_TABLES_TOO_SMALL. They are the tables for 20 odd points. The tables for more than 20 have no bytes, so
@@ -90,7 +95,7 @@ struct planner_outcome plan(const uint8_t *file, size_t file_length, double *flo
 
 /* ---- saving a drawing */
 
-/* Settings. Flags are added up, 0 is none. */
+/* Settings. Flags are added up, 0 is none. What PLANNER_OPTIMAL promises is said above PLANNER_MOST_OPTIMAL. */
 #define PLANNER_GREEDY 0
 #define PLANNER_OPTIMAL 1
 #define PLANNER_CLOSE 1

@@ -128,7 +128,11 @@ impl<'a> Plan<'a> {
     }
 }
 
-/// Up to so many odd points optimal pairing compares all choices of pairs.
+/// With 4 to so many odd points optimal pairing compares all choices of pairs, and none that leaves two points out costs less
+/// than the one taken. A pair costs the least distance along the strokes from its earlier point in the drawing to its later; the
+/// pairs are added from 0.0 on, in falling order of their earlier points, each sum rounded. What `CLOSE` adds is not in that sum;
+/// `Plan::retrace` is added piece by piece, along ways that fit the least distances within 1e-10, so it can differ from it by that
+/// little; and with more odd points nothing of the kind is promised (docs/DRAWING-FILE.md, 'The line').
 pub const MOST_OPTIMAL: usize = 20;
 /// The most odd points that a drawing has.
 pub const MOST_ODD: usize = 1022;
@@ -196,7 +200,7 @@ pub fn plan<'a>(file: &[u8], floats: &mut [f64], bytes: &mut [u8], output: &'a m
 
 /// Pairing greedy (docs/DRAWING-FILE.md, 'The line').
 pub const GREEDY: u8 = 0;
-/// Pairing optimal, likewise.
+/// Pairing optimal, likewise; `MOST_OPTIMAL` says what it promises.
 pub const OPTIMAL: u8 = 1;
 /// A flag: the line ends where it began. Flags are added up, 0 is none.
 pub const CLOSE: u8 = 1;

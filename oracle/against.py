@@ -2,7 +2,7 @@
 """Holds the planner that is linked into the oracle against the published one, on generated drawings, kind by kind.
 
 usage: oracle/against.py ORACLE SEED COUNT [--all-settings | --sizes | --linked | --minus-zero | --damaged N | --changed N] [KIND ...]
-       oracle/against.py ORACLE SEED COUNT --busy | --many-odd [--all-settings | --sizes | --damaged N | --changed N]
+       oracle/against.py ORACLE SEED COUNT --busy | --many-odd | --few-odd [--all-settings | --sizes | --damaged N | --changed N]
        oracle/against.py ORACLE SEED COUNT --saved | --rewritten [KIND ...]
 
 ORACLE was built with --planner. COUNT drawings of each kind, fewer of the slow kinds (SHARE); with --all-settings each
@@ -10,7 +10,7 @@ with both pairings and all flags, with --sizes each at many sizes of tables and 
 its made links written into it (of the kinds with flag 4 if none is named), with --minus-zero each one also cleaned (of the
 kinds with minus zeros if none is named), with --damaged N damaged copies of each, with --changed N copies with points, links
 and settings changed. With --busy only the kinds with busy nodes and many edges, with --many-odd only those with Optimal and more than 20 odd
-nodes. oracle/against.rs says what is compared.
+nodes, with --few-odd only those with Optimal and 4 to 20 odd nodes. oracle/against.rs says what is compared.
 With --saved the drawings are handed to the port's writer, of the kinds of oracle/handed.py; with --rewritten each file is read and
 saved again, those of oracle/answers.txt too, as the kind `answers`. oracle/saved.rs says what is compared.
 Prints the oracle's line for each kind, and the sums.
@@ -28,7 +28,7 @@ import answers
 import drawing as d
 import generate
 import handed
-from generate import BUSY_KINDS, KINDS, LINKING_KINDS, MANY_ODD_KINDS, MINUS_ZERO_KINDS
+from generate import BUSY_KINDS, FEW_ODD_KINDS, KINDS, LINKING_KINDS, MANY_ODD_KINDS, MINUS_ZERO_KINDS
 
 # The part of COUNT that is made of the kinds that take long, those of handed.py among them.
 SHARE = generate.SHARE | dict(saved_large=1 / 10, saved_too_many=1 / 5, saved_lines=1 / 2, saved_far_too_many=1 / 100,
@@ -62,6 +62,7 @@ def main():
     parser.add_argument("--minus-zero", action="store_true")
     parser.add_argument("--busy", action="store_true")
     parser.add_argument("--many-odd", action="store_true")
+    parser.add_argument("--few-odd", action="store_true")
     parser.add_argument("--saved", action="store_true")
     parser.add_argument("--rewritten", action="store_true")
     parser.add_argument("--damaged", type=int)
@@ -75,7 +76,7 @@ def main():
     sums, failed = collections.Counter(), False
     kinds = next((kinds for wanted, kinds in [(args.saved, handed.HANDED_KINDS), (args.linked, LINKING_KINDS),
                                               (args.minus_zero, MINUS_ZERO_KINDS), (args.busy, BUSY_KINDS),
-                                              (args.many_odd, MANY_ODD_KINDS),
+                                              (args.many_odd, MANY_ODD_KINDS), (args.few_odd, FEW_ODD_KINDS),
                                               (args.rewritten, ["answers", *KINDS])] if wanted), KINDS)
     for kind in args.kinds or kinds:
         run = subprocess.Popen([args.oracle, *mode], stdin=subprocess.PIPE, stdout=subprocess.PIPE)

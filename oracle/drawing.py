@@ -4,7 +4,7 @@ import struct
 import sys
 
 sys.path.insert(0, os.path.join(os.path.dirname(os.path.abspath(__file__)), "..", "tools"))
-from cardermoss.drawing_file import PLAN_BYTES, PLAN_F64, PLAN_OUTPUT, drawing, line, link, record, settings  # noqa: F401
+from cardermoss.drawing_file import PLAN_BYTES, PLAN_F64, PLAN_OUTPUT, drawing, line, link, record, settings, tables_for  # noqa: F401
 
 
 def batched(file, f64=PLAN_F64, byte=PLAN_BYTES, output=PLAN_OUTPUT):

@@ -1337,15 +1337,15 @@ def star_lines(rng, hub, tips, knees):
     return lines
 
 
-def many_odd_stars(rng, least=22, most=120):
+def many_odd_stars(rng, least=22, most=120, finish=many_odd):
     """Arms about one hub, of one length, of a few lengths, a step apart or any, straight or bent."""
     hub, count = spot(rng, 20 * STEP), how_many(rng, least, most)
     tips = arms_about(rng, hub, count, rng.choice(["equal", "few lengths", "a step apart", "any"]))
     lines = star_lines(rng, hub, tips, rng.choice([0, 0, 1, 3]) if count < 200 else 0)
     if rng.random() < 0.2:
         # Ways from tip to tip.
-        lines.append(rng.sample(tips, rng.randint(2, 6)))
-    return many_odd(rng, lines, largest=rng.choice([60, None]))
+        lines.append(rng.sample(tips, rng.randint(2, min(6, len(tips)))))
+    return finish(rng, lines, largest=rng.choice([60, None]))
 
 
 def level_star(rng, count, knees, reach=9000):
@@ -1362,7 +1362,10 @@ def turned_star(rng, count, steps, reach=900):
     vectors = places(rng, steps, reach, but=[(0, 0)])
     turned = lambda v: tuple(s * c for s, c in zip(rng.choice([(1, 1), (1, -1), (-1, 1), (-1, -1)]), v[::rng.choice([1, -1])]))
     arms = {}
-    while len(arms) < count:
+    # Short steps may lead to few tips.
+    for _ in range(99 * count):
+        if len(arms) == count:
+            break
         arm = [(0, 0)]
         for dx, dy in map(turned, rng.sample(vectors, steps)):
             arm.append((arm[-1][0] + dx, arm[-1][1] + dy))
@@ -1384,7 +1387,7 @@ def many_odd_rounded(rng):
     return many_odd(rng, level_star(rng, count, rng.choice([0, 1, 1, 2, 3]), rng.choice([9, 90, 9000, 100 * STEP])), largest=rng.choice([60, None]))
 
 
-def many_odd_hubs(rng, least=22, most=110):
+def many_odd_hubs(rng, least=22, most=110, finish=many_odd):
     """Two to six hubs in a row or a ring; a tip stands beside one of another hub, near by eye and far along the lines."""
     hubs, count, apart = rng.randint(2, 6), how_many(rng, least, most), rng.choice([40, 3000, 90 * STEP])
     middles = [(k * apart, rng.randint(-3, 3)) for k in range(hubs)]
@@ -1394,24 +1397,24 @@ def many_odd_hubs(rng, least=22, most=110):
         one, other = rng.sample(middles, 2)
         lines += [[one, (x, y)], [other, (x + rng.randint(1, 3), y + rng.randint(-2, 2))]]
     rng.shuffle(lines)
-    return many_odd(rng, lines, largest=rng.choice([60, None]))
+    return finish(rng, lines, largest=rng.choice([60, None]))
 
 
-def many_odd_lattices(rng, least=3, most=14):
+def many_odd_lattices(rng, least=3, most=14, threads=30, finish=many_odd):
     """Rows and columns that cross in shared points, even or not, with threads at knots and at the border."""
     across, down = rng.randint(least, most), rng.randint(least + 1, most)
     xs, ys = spread(rng, across, 0, 40 * STEP), spread(rng, down, 0, 40 * STEP)
     lines = [[(x, y) for x in xs] for y in ys] + [[(x, y) for y in ys] for x in xs]
     # Threads as long as the gaps or longer ones; their ends may meet other threads'.
     reach = rng.choice([xs[1] - xs[0], 1, 3000])
-    for _ in range(rng.randint(0, 30)):
+    for _ in range(rng.randint(0, threads)):
         x, y = rng.choice(xs), rng.choice(ys)
         lines.append([(x, y), (x + rng.choice([reach, -reach, 0]), y + rng.choice([reach, -reach]))])
     rng.shuffle(lines)
-    return many_odd(rng, lines, largest=rng.choice([40, None]))
+    return finish(rng, lines, largest=rng.choice([40, None]))
 
 
-def many_odd_trees(rng, least=30, most=140):
+def many_odd_trees(rng, least=30, most=140, linked=(0, 0, 1, 5, 20), finish=many_odd):
     """Random trees on a small grid or anywhere, and some links between their places."""
     count, unit = rng.randint(least, most), rng.choice([1, 700, STEP])
     side = math.isqrt(count) + rng.randint(1, 4)
@@ -1425,11 +1428,11 @@ def many_odd_trees(rng, least=30, most=140):
         lines = trails(rng, [(knots[i], knots[earlier(i)]) for i in range(1, count)], 255)
         if lines:
             break
-    pairs = [rng.sample(knots, 2) for _ in range(rng.choice([0, 0, 1, 5, 20]))]
-    return many_odd(rng, *joined_anywhere(lines, pairs), largest=rng.choice([40, None]))
+    pairs = [rng.sample(knots, 2) for _ in range(rng.choice(linked))]
+    return finish(rng, *joined_anywhere(lines, pairs), largest=rng.choice([40, None]))
 
 
-def many_odd_even(rng, least=11, most=60):
+def many_odd_even(rng, least=11, most=60, finish=many_odd):
     """Spines with legs on one side or both, evenly spaced, and rings with rays: one length everywhere, so that all ties are met."""
     count, gap, leg = rng.randint(least, most), rng.choice([1, 3, STEP]), rng.choice([1, 2, 3, 4])
     way = rng.choice(["one side", "both sides", "by turns", "two spines"])
@@ -1443,10 +1446,10 @@ def many_odd_even(rng, least=11, most=60):
         spine = [(k * gap, height) for k in reversed(range(count))] + [(-gap, height), (-gap, 0)] + spine
     turn = rng.choice([1, -1])
     lines = [[p[::turn] for p in line] for line in [spine] + rng.sample(legs, len(legs))]
-    return many_odd(rng, lines[1:] + lines[:1] if rng.random() < 0.5 else lines, largest=rng.choice([40, None]))
+    return finish(rng, lines[1:] + lines[:1] if rng.random() < 0.5 else lines, largest=rng.choice([40, None]))
 
 
-def many_odd_chains(rng, least=22, most=110):
+def many_odd_chains(rng, least=22, most=110, finish=many_odd):
     """A row of places joined by one segment and by two, by turns: all are odd, and ways from both ends round otherwise. Straight, bent or in rows."""
     count, gap = 2 * (how_many(rng, least, most) // 2), rng.choice([1, 7, 1000])
     way = rng.choice(["even", "uneven", "bent", "bent", "nearly even", "nearly even", "in rows"])
@@ -1466,7 +1469,7 @@ def many_odd_chains(rng, least=22, most=110):
     lines = None
     while lines is None:
         lines = trails(rng, pieces)
-    return many_odd(rng, lines, largest=rng.choice([40, None]))
+    return finish(rng, lines, largest=rng.choice([40, None]))
 
 
 def many_odd_made(rng):
@@ -1545,6 +1548,191 @@ def many_odd_most(rng):
     return many_odd(rng, *caterpillar(rng, rows if way == 1 else [(k * gap - EDGE, rng.randint(-gap, gap)) for k in range(511)]))
 
 
+# ---- Kinds with Optimal and 4 to 20 odd nodes: for the choice of pairs, its cost and the order in which that is added. ----
+
+def tables_for(n):
+    """What is lent for n odd nodes, no entry more."""
+    return dict(zip(("f64", "byte"), d.tables_for(n)))
+
+
+def few_odd(rng, lines, links=(), largest=None):
+    """The drawing with Optimal, any other settings and tables that are enough. None unless it has 4 to 20 odd nodes, and mostly where these are more than 12,
+    which take long."""
+    n = len(odd_places(lines, links))
+    if not 4 <= n <= 20 or n > 12 and rng.random() > 2**(12 - n):
+        return None
+    settings = dict(any_settings(rng, largest), pairing=1)
+    return write(lines, links, **settings), rng.choice([tables_for(n)] * 4 + [tables_for(n + 2 if n < 20 else n)])
+
+
+def until(make):
+    """The first drawing that is one."""
+    while True:
+        made = make()
+        if made:
+            return made
+
+
+def few(rng, least=4):
+    """A number of odd nodes, most often 12 at most."""
+    return max(least, rng.choice([4, 6, 6, 8, 8, 8, 8, 10, 10, 10, 10, 12, 12, rng.choice([14, 14, 14, 14, 16, 16, 18, 20])]))
+
+
+def few_odd_tiny(rng):
+    """Two to seven lines and up to six links on a 3 by 3 or 4 by 4 grid, pixels or steps: ties, splits and ways over one another."""
+    def make():
+        side, unit = rng.randint(3, 4), rng.choice([1, STEP])
+        cells = [(x * unit, y * unit) for x in range(side) for y in range(side)]
+        lines = [[rng.choice(cells) for _ in range(rng.randint(1, 4))] for _ in range(rng.randint(2, 7))]
+        links = tree_links(rng, lines, ways=("start", "end", "middle", "third", "beside")) if rng.random() < 0.5 else []
+        for _ in range(rng.randint(0, 3)):
+            la, lb = rng.randrange(len(lines)), rng.randrange(len(lines))
+            links.append((la, rng.choice(segments_of(lines[la])), rng.choice(cells), lb, rng.choice(segments_of(lines[lb])), rng.choice(cells)))
+        return few_odd(rng, lines, links, largest=rng.choice([4, None]))
+    return until(make)
+
+
+def few_odd_even(rng):
+    """Spines with legs, evenly spaced: one length everywhere, so that all ties are met."""
+    return until(lambda: many_odd_even(rng, 2, 9, finish=few_odd))
+
+
+def few_odd_stars(rng):
+    """Arms about one hub, of one length, of a few lengths, a step apart or any, straight or bent."""
+    return until(lambda: many_odd_stars(rng, few(rng), 20, finish=few_odd))
+
+
+def few_odd_rounded(rng):
+    """Stars whose two longest arms are left out: all choices cost the same but for their roundings, so that the order of the sum decides."""
+    reach = rng.choice([3, 9, 90, 9000, 100 * STEP])
+    return until(lambda: few_odd(rng, level_star(rng, few(rng, 6), rng.choice([0, 0, 1, 2]), reach), largest=rng.choice([60, None])))
+
+
+def few_odd_turned(rng):
+    """Stars whose arms make the same steps in another order: nearly every distance is the same but for its last bits, and other ones from the other end."""
+    steps, reach = rng.choice([2, 2, 3, 3, 4, 5]), rng.choice([9, 900])
+    return until(lambda: few_odd(rng, turned_star(rng, few(rng), steps, reach), largest=rng.choice([9, None])))
+
+
+def few_odd_ordered(rng):
+    """A few lengths at many places: combs whose teeth, gaps and ends have two or three lengths, so that choices are sums of the same distances in
+    another order."""
+    def make():
+        lengths = rng.sample([(1, 0), (0, 1), (1, 1), (2, 1), (1, 2), (3, 1), (2, 3), (3, 4), (5, 2), (7, 1)], rng.choice([2, 2, 3]))
+        unit, count = rng.choice([1, STEP, 99]), rng.randint(1, 7)
+        step = lambda: tuple(unit * v for v in rng.choice(lengths))
+        at, lines, spine = (0, 0), [], [(0, 0)]
+        for _ in range(count):
+            dx, dy = step()
+            at = (at[0] + dx, at[1] + dy)
+            spine.append(at)
+            tx, ty = step()
+            lines.append([at, (at[0] + rng.choice([tx, -tx]), at[1] - ty - (ty == 0) * unit)][::rng.choice([1, -1])])
+            if rng.random() < 0.3:
+                spine.append(at := (at[0] + dx, at[1] + dy))
+        lines.append(spine + [(at[0] + v[0], at[1] + v[1]) for v in [step()]])
+        rng.shuffle(lines)
+        return few_odd(rng, lines, largest=rng.choice([20, None]))
+    return until(make)
+
+
+def few_odd_nets(rng):
+    """Lace and walls of bricks with few knots."""
+    return until(lambda: few_odd(rng, wall(rng, 3, 6) if rng.random() < 0.3 else net(rng, rng.choice([9, 14, 20])), largest=rng.choice([40, None])))
+
+
+def few_odd_combs(rng):
+    """Combs of two to five teeth, linked where the teeth end or anywhere."""
+    return until(lambda: few_odd(rng, *toothed(rng, rng.choice([2, 2, 3, 3, 4, 5]))))
+
+
+def few_odd_hubs(rng):
+    """Two to six hubs in a row or a ring; a tip stands beside one of another hub, near by eye and far along the lines."""
+    return until(lambda: many_odd_hubs(rng, 4, 14, finish=few_odd))
+
+
+def few_odd_lattices(rng):
+    """Rows and columns that cross in shared points, even or not, with a few threads."""
+    return until(lambda: many_odd_lattices(rng, 2, 5, 6, finish=few_odd))
+
+
+def few_odd_trees(rng):
+    """Random trees on a small grid or anywhere, and some links between their places."""
+    return until(lambda: many_odd_trees(rng, 5, 18, (0, 0, 1, 2, 4), finish=few_odd))
+
+
+def few_odd_chains(rng):
+    """Rows of places joined by one segment and by two, by turns: all are odd, and ways from both ends round otherwise."""
+    return until(lambda: many_odd_chains(rng, 4, 14, finish=few_odd))
+
+
+def few_odd_cubes(rng):
+    """Corners of a cube laid flat, some edges left out: ways of one length whose sums round apart, from the one end and from the other."""
+    def make():
+        k = rng.choice([2, 3, 3, 3, 4])
+        sides = [spot(rng, rng.choice([3, 9, 2000])) for _ in range(k)]
+        corner = lambda mask: tuple(sum(s[axis] for i, s in enumerate(sides) if mask >> i & 1) for axis in (0, 1))
+        if len({corner(mask) for mask in range(2**k)}) < 2**k:
+            return None
+        edges = [(corner(mask), corner(mask | 1 << i)) for mask in range(2**k) for i in range(k) if not mask >> i & 1]
+        gone = rng.choice([0, 0.05, 0.1, 0.2])
+        return few_odd(rng, trails(rng, [edge for edge in edges if rng.random() >= gone] or edges), largest=rng.choice([20, None]))
+    return until(make)
+
+
+def few_odd_made(rng):
+    """Flag 4 with Optimal: dots and short lines, linked by the planner, most of them with 4 to 12 odd nodes: never more than two for each line."""
+    count, reach = rng.choice([3, 4, 5, 5, 6, 6, 7, 7, rng.randint(8, 10)]), rng.choice([3, 5, 9, 3000, EDGE])
+    unit = 1 if reach > 99 else rng.choice([1, 512, STEP])
+    place = lambda: tuple(v * unit for v in spot(rng, reach))
+    lines = [[place() for _ in range(rng.choice([1, 1, 2, 2, 2, 3]))] for _ in range(count)]
+    settings = dict(linking(rng, rng.choice([9, None])), pairing=1)
+    return write(lines, **settings), tables_for(14) if count <= 7 else FULL
+
+
+def two_ways(n, pairs, extra, flags):
+    """Two hubs joined by a straight row of n segments and by a longer way of two, a short arm and a very long one at each, and a closed line of `extra` segments. The row is
+    split by `pairs` times two links alike. The short arms are paired and the long ones left out, each time over the row: closed, the graph has
+    3 n + 8 pairs + 10 + extra edges."""
+    gap = 4
+    end = (n * gap, 0)
+    row = [(gap * k, 0) for k in range(n + 1)]
+    lines = [row, [row[0], (2 * n, 9 * n), end], [row[0], (-1, 1)], [end, (end[0] + 1, 1)], [row[0], (-9 * n * gap, -1)], [(end[0] + 9 * n * gap, -1), end]]
+    if extra:
+        lines.append([end] + [(end[0] + 9, 9 + k) for k in range(extra - 1)] + [end])
+    splits = [(0, k, (gap * k + 1, 0), 0, k, (gap * k + 3, 0)) for k in range(pairs) for _ in range(2)]
+    return write(lines, splits, flags=flags, pairing=1)
+
+
+def few_odd_tables(rng):
+    """4 to 20 odd nodes with tables exact, short and of other sizes, and 9, 11, 13 and 14 beside each other."""
+    n = rng.choice([4, 4, 6, 6, 8, 10, 12, 12, 14, rng.choice([16, 18, 20])])
+    if rng.random() < 0.01:
+        # Some pass 4,000 edges where they are closed.
+        n, file = 4, two_ways(1003, 122, 5 + rng.choice([0, 1, 0, 1, -2, 9]), rng.randrange(4))
+    else:
+        lines = star_lines(rng, (0, 0), places(rng, n, 900, but=[(0, 0)]), 0)
+        lines += [[(STEP, STEP)]] * (rng.random() < 0.1)
+        file = write(lines, **dict(any_settings(rng), pairing=1))
+    floats, bytes_ = d.tables_for(n)
+    lent = dict(f64=rng.choice([floats] * 6 + [floats - 1] * 3 + [floats + 1, 0, n * n, 2**n, 2**n + n * (n - 1), d.tables_for(n + 2)[0], d.tables_for(n - 2)[0]]),
+                byte=rng.choice([bytes_] * 6 + [bytes_ - 1, bytes_ - 1, bytes_ + 1, 0, n * n, bytes_ // 2]))
+    return file, lent if rng.random() < 0.7 else dict(lent, output=rng.choice([0, 5, 6, 6 + 16 * n, 6 + 16 * (2 * n - 1), 5 + 16 * (2 * n - 1), 6 + 16 * 3 * n]))
+
+
+def few_odd_most(rng):
+    """14 to 20 odd nodes: stars, combs, trees and lace."""
+    def finish(rng, lines, links=(), largest=None):
+        n = len(odd_places(lines, links))
+        fits = 14 <= n <= rng.choice([14, 16, 16, 18, 20])
+        return (write(lines, links, **dict(any_settings(rng, largest), pairing=1)), tables_for(n)) if fits else None
+    return until(lambda: rng.choice([
+        lambda: finish(rng, level_star(rng, 2 * rng.randint(7, 10), rng.choice([0, 1, 2]), rng.choice([9, 9000])), largest=60),
+        lambda: finish(rng, turned_star(rng, 2 * rng.randint(7, 10), rng.choice([2, 3, 4])), largest=9),
+        lambda: many_odd_stars(rng, 14, 20, finish=finish), lambda: many_odd_trees(rng, 14, 40, finish=finish), lambda: many_odd_even(rng, 5, 12, finish=finish),
+        lambda: finish(rng, net(rng, 40, 14)), lambda: finish(rng, *toothed(rng, rng.randint(4, 6))), lambda: many_odd_chains(rng, 14, 20, finish=finish)])())
+
+
 KINDS = {f.__name__: f for f in (tiny, walks, lattice, honeycomb, lace, comb, cube, near, overlap, zero, links, dots, empty, pieces,
                                  limits, edges, optimal, flags, output, damaged, big)}
 # Of change request 1.
@@ -1559,13 +1747,16 @@ BUSY_KINDS = {f.__name__: f for f in (busy_node, busy_links, busy_pair, busy_ret
 MANY_ODD_KINDS = {f.__name__: f for f in (many_odd_nets, many_odd_combs, many_odd_stars, many_odd_rounded, many_odd_turned, many_odd_hubs, many_odd_lattices,
                                           many_odd_trees, many_odd_even, many_odd_chains, many_odd_made, many_odd_tables,
                                           many_odd_hundreds, many_odd_most)}
-KINDS |= LINKING_KINDS | MINUS_ZERO_KINDS | BUSY_KINDS | MANY_ODD_KINDS
+# Of change request 6.
+FEW_ODD_KINDS = {f.__name__: f for f in (few_odd_tiny, few_odd_even, few_odd_stars, few_odd_rounded, few_odd_turned, few_odd_ordered, few_odd_nets, few_odd_combs,
+                                         few_odd_hubs, few_odd_lattices, few_odd_trees, few_odd_chains, few_odd_cubes, few_odd_made, few_odd_tables, few_odd_most)}
+KINDS |= LINKING_KINDS | MINUS_ZERO_KINDS | BUSY_KINDS | MANY_ODD_KINDS | FEW_ODD_KINDS
 
 # The part of COUNT that is made of the kinds that take long to make or to plan, where a run has many drawings.
 SHARE = dict(comb=1 / 100, big=1 / 100, made_many=1 / 100, made_long=1 / 50, honeycomb=1 / 20, near=1 / 5, lace=1 / 4, edges=1 / 4,
              optimal=1 / 2, busy_retraces=1 / 10, **dict.fromkeys(["many_odd_nets", "many_odd_combs", "many_odd_stars", "many_odd_hubs",
                                                                    "many_odd_lattices", "many_odd_trees", "many_odd_made"], 1 / 2),
-             many_odd_hundreds=1 / 20, many_odd_most=1 / 150)
+             many_odd_hundreds=1 / 20, many_odd_most=1 / 150, few_odd_made=1 / 2, few_odd_tables=1 / 2, few_odd_most=1 / 50)
 
 
 def main():

@@ -132,6 +132,17 @@ fn degrees(file: &[u8], lent: Lent) -> String {
     format!("degree {most} loops {loops}")
 }
 
+/// One line for --taken: the odd nodes, and the pairs that the published planner takes for them, by their numbers and in its order.
+fn taken(file: &[u8], lent: Lent) -> String {
+    match stand_in::taken(file, lent) {
+        Err(number) => format!("refused {number}"),
+        Ok((odd, pairs)) => {
+            let pairs: String = pairs.iter().map(|(a, b)| format!(" {a}-{b}")).collect();
+            format!("odd {odd} taken{pairs}")
+        }
+    }
+}
+
 /// One line for --inside, to hold the stand-in for petgraph against petgraph itself: for each node of the
 /// repaired graph its edges in their order, and all costs from the first, the middle and the last node.
 fn inside(file: &[u8], lent: Lent) -> String {
@@ -177,9 +188,9 @@ fn batched(file: &[u8], lent: Lent) -> Vec<u8> {
     head.into_iter().flat_map(|n| (n as u32).to_le_bytes()).chain(file.iter().copied()).collect()
 }
 
-const USAGE: &str = "usage: oracle [--f64 N] [--bytes N] [--output N] [--counts | --degrees | --inside | --pairings]   < one drawing
+const USAGE: &str = "usage: oracle [--f64 N] [--bytes N] [--output N] [--counts | --degrees | --inside | --pairings | --taken]   < one drawing
        oracle --links | --linked | --cleaned                              < one drawing
-       oracle --batch [--line | --counts | --degrees | --inside | --pairings]   < drawings in batch form
+       oracle --batch [--line | --counts | --degrees | --inside | --pairings | --taken]   < drawings in batch form
        oracle --batch --links | --linked                                  < drawings in batch form
        oracle --batch --cleaned                                           < drawings in batch form
        oracle --batch --read                                              < drawings in batch form
@@ -236,6 +247,7 @@ enum Shown {
     Degrees,
     Inside,
     Pairings,
+    Taken,
     Read,
     Links,
     #[cfg(made)]
@@ -253,6 +265,7 @@ fn shown(what: Shown, file: &[u8], lent: Lent, is_batch: bool) -> Vec<u8> {
         Shown::Degrees => (degrees(file, lent) + "\n").into_bytes(),
         Shown::Inside => (inside(file, lent) + "\n").into_bytes(),
         Shown::Pairings => (pairings::row(&stand_in::pairings(file)) + "\n").into_bytes(),
+        Shown::Taken => (taken(file, lent) + "\n").into_bytes(),
         Shown::Read => format!("{}\n", reader::read(file).err().unwrap_or(0)).into_bytes(),
         Shown::Links => rows(made_links(file)).into_bytes(),
         #[cfg(made)]
@@ -280,6 +293,7 @@ fn main() {
             "--degrees" => what = Shown::Degrees,
             "--inside" => what = Shown::Inside,
             "--pairings" => what = Shown::Pairings,
+            "--taken" => what = Shown::Taken,
             "--read" => what = Shown::Read,
             "--links" => what = Shown::Links,
             #[cfg(made)]

@@ -428,16 +428,16 @@ TELLING = [
 ]
 
 
-def telling():
+def telling(rows, begin):
     numbers = {}
-    for kind, number, *_ in TELLING:
+    for kind, number, *_ in rows:
         numbers[kind] = max(number, numbers.get(kind, 0))
     made = {}
     for kind, last in numbers.items():
         rng = random.Random(f"{kind} 1")
         made[kind] = [g.KINDS[kind](rng)[0] for _ in range(last + 1)]
-    for kind, number, _, what in TELLING:
-        yield f"many odd: {what}, {kind} {number}", made[kind][number]
+    for kind, number, _, what in rows:
+        yield f"{begin}: {what}, {kind} {number}", made[kind][number]
 
 
 def with_many_odd():
@@ -478,7 +478,7 @@ def with_many_odd():
     yield "many odd: a lattice of 8 by 8, closing, Inside", many(lattice, flags=3)
     for flags in (4, 7):
         yield f"many odd: 26 dots in two uneven rows, flags {flags}", many([[(5 * x + y * x % 3, 4 * y)] for y in range(2) for x in range(13)], flags=flags)
-    yield from telling()
+    yield from telling(TELLING, "many odd")
     yield "order: apart, 22 odd nodes and no tables: 9 before 11", many(star(22) + [[(50, 50)]]), dict(f64=0, byte=0)
     yield "order: apart, 22 odd nodes, a float short and no output: 9 before 11 and 14", many(star(22) + [[(50, 50)]]), dict(f64=483, byte=0, output=0)
     yield "order: 22 odd nodes, a float short and no output: 11 before 14", rays, dict(f64=483, byte=0, output=0)
@@ -489,6 +489,95 @@ def with_many_odd():
     yield "order: 22 odd nodes, 4,001 edges: 13", past, dict(f64=484, byte=0)
     yield "order: 22 odd nodes, 4,001 edges and no output: 13 before 14", past, dict(f64=484, byte=0, output=0)
     yield "many odd: 22 odd nodes, exactly 4,000 edges", g.bridge(359, 11, 9, 0), dict(f64=484, byte=0)
+
+
+# Drawings for which another choice would cost less by a rule that is nearly change request 6's, as in TELLING. `oracle/cheapest.py ORACLE 1 250 --find RULE KIND` has found them.
+TELLING_FEW = [
+    ("few_odd_rounded", 187, "rising", "pairs are added in falling order of their lower nodes, on a star"),
+    ("few_odd_turned", 11, "rising", "pairs are added in falling order, one cheapest choice"),
+    ("few_odd_rounded", 78, "rising", "pairs are added in falling order, 10 odd nodes"),
+    ("few_odd_hubs", 241, "rising", "pairs are added in falling order, on several hubs"),
+    ("few_odd_turned", 76, "from-the-higher", "the distance from the lower node, 4 odd nodes"),
+    ("few_odd_turned", 64, "from-the-higher", "the distance from the lower node, 6 odd nodes"),
+    ("few_odd_rounded", 130, "from-the-higher", "the distance from the lower node, 8 odd nodes"),
+    ("few_odd_rounded", 246, "the-smaller-of-both", "the distance from the lower node, not the smaller one, 8 odd nodes"),
+    ("few_odd_turned", 202, "the-smaller-of-both", "the distance from the lower node, not the smaller one, 6 odd nodes"),
+    ("few_odd_rounded", 231, "the-smaller-of-both", "the distance from the lower node, not the smaller one, 10 odd nodes"),
+    ("few_odd_rounded", 92, "exact", "each sum is rounded, 6 odd nodes"),
+    ("few_odd_hubs", 55, "exact", "each sum is rounded, 8 odd nodes"),
+    ("few_odd_trees", 196, "exact", "each sum is rounded, 10 odd nodes"),
+    ("few_odd_hubs", 137, "shortest-first", "in falling order, not from the shortest pair on"),
+    ("few_odd_trees", 97, "shortest-first", "in falling order, not from the shortest pair on, on a tree"),
+    ("few_odd_hubs", 125, "longest-first", "in falling order, not from the longest pair on"),
+    ("few_odd_turned", 168, "longest-first", "in falling order, not from the longest pair on, arms of one length"),
+]
+
+
+# The smallest drawings that we know of for which another choice would cost less by a rule that is nearly change request 6's: lines and links in whole pixels, and flag 4
+# or none; and four lines through one hub.
+SMALLEST = [
+    ("added in rising order, 184 bytes", [[(0, 0), (0, 1)], [(0, 2), (1, 0)]], [(1, 0, (2, 0), 0, 0, (2, 1)), (1, 0, (1, 1), 0, 0, (1, 2))], 0),
+    ("added in rising order, 174 bytes", [[(0, 0)], [(0, 3)], [(1, 1), (2, 2)], [(1, 0), (2, 0)], [(1, 2), (3, 0)]], [], g.LINK),
+    ("added in rising order, lines through a hub", [[(1, 0), (2, 1), (3, 2)], [(1, 2), (2, 1), (3, 0)], [(2, 2), (2, 1), (2, 0)], [(0, 1), (2, 1), (4, 1)]], [], 0),
+    ("added exactly, 138 bytes", [[(0, 0), (0, 1)], [(1, 0), (1, 1)]], [(1, 0, (2, 0), 0, 0, (3, 0))], 0),
+    ("added exactly, 136 bytes", [[(0, 0)], [(3, 3)], [(0, 2), (2, 0)], [(0, 1), (1, 0)]], [], g.LINK),
+    ("from the higher node, 130 bytes", [[(1, 1), (2, 2), (3, 3), (0, 0)], [(0, 8)], [(8, 0)]], [], g.LINK),
+    ("from the higher node, 132 bytes", [[(1, 3), (2, 2), (3, 3), (1, 1)]], [(0, 2, (0, 0), 0, 2, (6, 6))], 0),
+    ("from the higher node, 140 bytes", [[(0, 0), (1, 1), (0, 2), (2, 0)], [(0, 1), (0, 2), (3, 0)]], [], 0),
+]
+
+
+def with_few_odd():
+    """Drawings with Optimal and 4 to 20 odd nodes: the tables, the choice of pairs and what it costs, and the order of the checks."""
+    few = lambda lines, links=(), **settings: d.drawing(lines, links, **dict(dict(pairing=1), **settings))
+    for name, lines, links, flags in SMALLEST:
+        for more in (0, 1):
+            yield f"few odd: another choice would cost less {name}{', closing' * more}", few(lines, links, flags=flags + more)
+    yield from telling(TELLING_FEW, "few odd")
+    for n in (4, 6, 8, 10, 12, 14, 16, 18):
+        yield f"few odd: {n} rays, tables exact", few(star(n)), g.tables_for(n)
+        if n not in (14, 18):
+            exact = g.tables_for(n)
+            yield f"few odd: {n} rays, a float short: 11", few(star(n)), dict(exact, f64=exact["f64"] - 1)
+            yield f"few odd: {n} rays, a byte short: 11", few(star(n)), dict(exact, byte=exact["byte"] - 1)
+    yield "few odd: 8 rays, 2^n + n (n - 1) floats: 11", few(star(8)), dict(f64=256 + 56, byte=256)
+    yield "few odd: 8 rays, 2^n floats: 11", few(star(8)), dict(f64=256, byte=256)
+    yield "few odd: 8 rays, half of the bytes: 11", few(star(8)), dict(f64=320, byte=128)
+    # Which two are left out: the first, the last, two that follow each other or not, by how long their rays are.
+    rays = lambda lengths, **settings: few([[(0, 0), (x * k, y * k)] for (x, y), k in zip(
+        [(1, 0), (0, 1), (-1, 0), (0, -1), (2, 1), (-1, 2), (-2, -1), (1, -2), (1, 2), (-2, 1)], lengths)], **settings)
+    for name, lengths in [("the first two", (9, 9, 1, 2, 1, 2)), ("the last two", (2, 1, 2, 3, 7, 7)), ("the first and the last", (9, 1, 2, 2, 1, 7)),
+                          ("two in the middle", (1, 2, 9, 9, 1, 1)), ("two apart in the middle", (1, 9, 2, 9, 1, 1)),
+                          ("none of the first and the last two", (1, 2, 3, 9, 8, 1, 1, 1))]:
+        yield f"few odd: the longest rays are left out, {name}", rays(lengths)
+    # A row of places joined by one segment and by two, by turns: each with the one before it or behind it, near and far.
+    for name, gaps in [("near ones first", (1, 5, 1, 5, 1)), ("far ones first", (5, 1, 5, 1, 5)), ("all alike", (1, 1, 1, 1, 1, 1, 1)), ("falling", (7, 6, 5, 4, 3, 2, 1)),
+                       ("rising", (1, 2, 3, 4, 5, 6, 7)), ("a far one in the middle", (1, 1, 1, 9, 1, 1, 1)), ("ten of them", (3, 1, 4, 1, 5, 9, 2, 6, 5))]:
+        at = [sum(gaps[:k]) for k in range(len(gaps) + 1)]
+        doubled = [(at[k], at[k + 1]) for k in range(1, len(gaps), 2)]
+        yield f"few odd: a row of places, {name}", few([[(x, 0) for x in at], *([(a, 0), (b, 0)] for a, b in doubled)])
+    # Ties everywhere, and pairs that are near by eye and far along the lines.
+    ladder = [[(x, 0) for x in range(4)], [(x, 1) for x in range(4)], *([(x, 0), (x, 1)] for x in range(4))]
+    hubs = [[(0, 0), (40, 0)]] + [line for k in range(3) for line in ([(0, 0), (3 * k, 20)], [(40, 0), (3 * k + 1, 20)])]
+    lattice = [[(x, y) for x in range(3)] for y in range(3)] + [[(x, y) for y in range(3)] for x in range(3)]
+    for flags in range(4):
+        yield f"few odd: a ladder of one length, flags {flags}", few(ladder, flags=flags)
+        yield f"few odd: two hubs, near by eye and far along the lines, flags {flags}", few(hubs, flags=flags)
+    yield "few odd: a lattice of 3 by 3", few(lattice)
+    yield "few odd: a lattice of 3 by 3 with a thread at each corner", few(lattice + [[(x, y), (x + dx, y + dx)] for x, y, dx in ((0, 0, -1), (2, 2, 1))]
+                                                                         + [[(0, 2), (-1, 3)], [(2, 0), (3, -1)]])
+    teeth = [[(3 * k, 0), (3 * k, 4)] for k in range(3)]
+    yield "few odd: a comb with links in its teeth", few(teeth, [(0, 0, (0, 1), 1, 0, (3, 1)), (1, 0, (3, 3), 2, 0, (6, 3))])
+    yield "few odd: dots and a segment, flags 4", few([[(0, 0)], [(4, 1), (9, 5)], [(3, 3)], [(7, 0)], [(8, 8)], [(1, 6)]], flags=4)
+    # Costs of more than 8,192 and of more than 65,536 pixels: from one corner of the grid to the other.
+    for n in (4, 16):
+        yield f"few odd: {n} rays from corner to corner", few([[(-4096, -4096), (4096 - 7 * (k % 5), 4096 - 3 * k)] for k in range(n)]), g.tables_for(n)
+    # The row of two_ways has 1,003 segments and is split by 122 times two links: 4,000 edges where it is closed, and one more.
+    yield "few odd: 4 odd nodes, exactly 4,000 edges", g.two_ways(1003, 122, 5, 1)
+    past = g.two_ways(1003, 122, 6, 1)
+    yield "order: 4 odd nodes, 4,001 edges: 13", past, g.tables_for(4)
+    yield "order: 4 odd nodes, 4,001 edges and a float short: 11 before 13", past, dict(f64=31, byte=16)
+    yield "order: 6 odd nodes, apart and a byte short: 9 before 11", few(star(6) + [[(50, 50)]]), dict(f64=100, byte=63)
 
 
 # Cases of number 15 that tell no more than another one of the list, or that are long.
@@ -521,7 +610,7 @@ def generated():
 
 
 def main():
-    makers = from_samples, from_limits, by_hand, generated, with_flag_4, from_own_links, with_minus_zeros, with_busy_nodes, with_many_odd
+    makers = from_samples, from_limits, by_hand, generated, with_flag_4, from_own_links, with_minus_zeros, with_busy_nodes, with_many_odd, with_few_odd
     cases = [(name, file, *(lent or [{}])) for make in makers for name, file, *lent in make()]
     lent = [dict(dict(f64=d.PLAN_F64, byte=d.PLAN_BYTES, output=d.PLAN_OUTPUT), **lent) for _, _, lent in cases]
     batch = b"".join(d.batched(file, **sizes) for (_, file, _), sizes in zip(cases, lent))

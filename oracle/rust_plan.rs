@@ -34,9 +34,21 @@ pub struct Plan {
 
 /// The plan for a file, or the number of its refusal.
 pub fn plan(file: &[u8], lent: Lent) -> Result<Plan, u32> {
-    let drawing = links::drawing_of(file)?;
-    let (mut graph, node_coords) = graph_of(&drawing);
+    let (drawing, mut graph, node_coords) = checked(file, lent)?;
     let edges_drawn = graph.edge_count();
+    let (retrace, odd_before, odd_after) = fix_parity(&mut graph, &node_coords, pairing_of(&drawing), drawing.close)
+        .map_err(|error| if error == TOO_MANY_EDGES { 13u32 } else { 12 })?;
+    let points = line_of(&drawing, &graph, &node_coords);
+    if lent.output_bytes < 6 + 16 * points.len() {
+        return Err(14);
+    }
+    Ok(Plan { retrace, odd_before, odd_after, points, edges_drawn, graph })
+}
+
+/// The drawing and its graph, when it has passed the checks that come before the pairs: 1 to 9, 11 and 15.
+fn checked(file: &[u8], lent: Lent) -> Result<(reader::Drawing, UnGraph<(), f64>, Vec<geo::Coord<f64>>), u32> {
+    let drawing = links::drawing_of(file)?;
+    let (graph, node_coords) = graph_of(&drawing);
     if !all_reached_from_first(&graph) {
         return Err(9);
     }
@@ -46,13 +58,26 @@ pub fn plan(file: &[u8], lent: Lent) -> Result<Plan, u32> {
             return Err(11);
         }
     }
-    let (retrace, odd_before, odd_after) = fix_parity(&mut graph, &node_coords, pairing_of(&drawing), drawing.close)
-        .map_err(|error| if error == TOO_MANY_EDGES { 13u32 } else { 12 })?;
-    let points = line_of(&drawing, &graph, &node_coords);
-    if lent.output_bytes < 6 + 16 * points.len() {
-        return Err(14);
+    Ok((drawing, graph, node_coords))
+}
+
+/// How many odd nodes a file has, and the pairs that `fix_parity` takes where there are more than two, in the order in which it hands them to
+/// `apply_matching`, by the numbers that `build_graph` gives the nodes. The two that are joined to close the line are not among them, and 12 to 14,
+/// which come behind the pairs, are not looked for.
+pub fn taken(file: &[u8], lent: Lent) -> Result<(usize, Vec<(usize, usize)>), u32> {
+    let (drawing, graph, node_coords) = checked(file, lent)?;
+    let odd = odd_degree_vertices(&graph);
+    let pairs = pairs_of(&drawing, &graph, &odd, &node_coords);
+    Ok((odd.len(), pairs.into_iter().map(|(a, b)| (a.index(), b.index())).collect()))
+}
+
+/// As in `fix_parity`.
+fn pairs_of(drawing: &reader::Drawing, graph: &UnGraph<(), f64>, odd: &[NodeIndex], node_coords: &[geo::Coord<f64>]) -> Vec<(NodeIndex, NodeIndex)> {
+    match odd.len() {
+        0 | 2 => Vec::new(),
+        _ if drawing.optimal => optimal_matching(graph, odd, node_coords).expect("pairs"),
+        _ => greedy_euclidean_matching(odd, node_coords),
     }
-    Ok(Plan { retrace, odd_before, odd_after, points, edges_drawn, graph })
 }
 
 /// The entries of the f64 table and of the byte table that check 11 asks for where Optimal was chosen with n odd nodes. Above
@@ -144,11 +169,7 @@ pub fn phase_ends(file: &[u8], now: fn() -> f64) -> Vec<f64> {
     if !is_whole {
         return ends;
     }
-    let mut pairs = match odd.len() {
-        0 | 2 => Vec::new(),
-        _ if drawing.optimal => optimal_matching(&graph, &odd, &node_coords).expect("pairs"),
-        _ => greedy_euclidean_matching(&odd, &node_coords),
-    };
+    let mut pairs = pairs_of(&drawing, &graph, &odd, &node_coords);
     // The two nodes that no pair has, where the line is to be closed: retraced too, but not among the searches.
     let mut last = Vec::new();
     if drawing.close {

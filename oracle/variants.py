@@ -79,6 +79,7 @@ STRAIGHT = """{}_pairs.iter().map(|&(a, b)| {{
             (p.x - q.x).nearest_hypot(p.y - q.y)
         }}).sum::<f64>()"""
 WORKING_PAIR = "pairs.push((odd[indices[best_ii]], odd[indices[best_jj]]));"
+CANDIDATES = "let mut rest = mask & !(1 << i);"
 BY_VIRTUAL = "circuit.iter().position(|&(_, by)| by == Some(v))"
 BY_ENDS = """|&(_, by)| by.is_some_and(|e| {
     let ((a, b), (c, d)) = (graph.edge_endpoints(e).unwrap(), graph.edge_endpoints(v).unwrap());
@@ -221,6 +222,71 @@ def asked_many(by):
 def distances(by):
     """All distances, changed when they are there."""
     return "fn all_pairs_graph_distances(", ("\n    dist", f"\n    for i in 0..n {{\n        for j in 0..i {{\n            {by}\n        }}\n    }}\n    dist")
+
+
+def paired_few(*pairs):
+    """The table for 4 to 20 odd nodes. A walk back through it that has no end stops."""
+    return "fn dp_bitmask_matching(", *pairs, ("    while mask != 0 {", "    while mask != 0 {\n        assert!(pairs.len() < 10);")
+
+
+def candidates_few(by):
+    """The nodes that the lowest one of a set may be paired with, changed where there are several: `rest` has a bit for each."""
+    return paired_few((CANDIDATES, f"{CANDIDATES}\n        if rest & (rest - 1) != 0 {{\n            {by}\n        }}"))
+
+
+def left_out(first, second):
+    """Which two nodes are tried to be left out, a below b."""
+    return paired_few(("for a in 0..n {", f"for a in {first} {{"), ("for b in (a + 1)..n {", f"for b in {second} {{"))
+
+
+def by_rule(cost):
+    """Up to 10 odd nodes another choice is taken where it costs less than the right one by a rule that is nearly right: an expression of `pairs`, which are places
+    among the odd nodes with rising lower nodes, and of `d`, the distances."""
+    return "fn optimal_matching(", ("dp_bitmask_matching(odd, &dist_matrix)", f"""{{
+            type Pairs = Vec<(usize, usize)>;
+            fn choices(nodes: &[usize], left_out: usize, so_far: &mut Pairs, all: &mut Vec<Pairs>) {{
+                let Some((&first, rest)) = nodes.split_first() else {{
+                    all.extend((left_out == 0).then(|| so_far.clone()));
+                    return;
+                }};
+                if left_out > 0 {{
+                    choices(rest, left_out - 1, so_far, all);
+                }}
+                for &other in rest {{
+                    so_far.push((first, other));
+                    choices(&rest.iter().copied().filter(|&n| n != other).collect::<Vec<_>>(), left_out, so_far, all);
+                    so_far.pop();
+                }}
+            }}
+            let right = dp_bitmask_matching(odd, &dist_matrix)?;
+            let mut all = Vec::new();
+            if n <= 10 {{
+                choices(&(0..n).collect::<Vec<_>>(), 2, &mut Vec::new(), &mut all);
+            }}
+            let place = |node| odd.iter().position(|&n| n == node).unwrap();
+            let mut taken: Pairs = right.into_iter().map(|(a, b)| (place(a), place(b))).collect();
+            let d = &dist_matrix;
+            let straight = |a: usize, b: usize| {{
+                let (p, q) = (node_coords[odd[a].index()], node_coords[odd[b].index()]);
+                (p.x - q.x).nearest_hypot(p.y - q.y)
+            }};
+            let cost = |pairs: &Pairs| {{ {cost} }};
+            for other in all {{
+                if cost(&other) < cost(&taken) {{
+                    taken = other;
+                }}
+            }}
+            Ok(taken.into_iter().map(|(a, b)| (odd[a], odd[b])).collect())
+        }}""")
+
+
+def falling(pair, start="0.0"):
+    """The request's sum with another cost of a pair or another start."""
+    return by_rule(f"pairs.iter().rev().fold({start}, |sum, &(a, b)| sum + {pair})")
+
+
+def sorted_costs(by):
+    return by_rule(f"let mut costs: Vec<f64> = pairs.iter().map(|&(a, b)| d[a][b]).collect();\n costs.sort_by(f64::total_cmp);\n {by}")
 
 
 def side(name, by):
@@ -420,6 +486,74 @@ VERSIONS = {
     "optimal: the last of the two left out": ("fn dp_bitmask_matching(", ("dp[to_match] < best_cost", "dp[to_match] <= best_cost")),
     "optimal: distances transposed": ("fn dp_bitmask_matching(", ("dist_matrix[i][j]", "dist_matrix[j][i]")),
     "optimal: distances in whole pixels": ("fn dp_bitmask_matching(", ("dist_matrix[i][j]", "dist_matrix[i][j].round()")),
+    "few odd: added in rising order": by_rule("pairs.iter().fold(0.0, |sum, &(a, b)| sum + d[a][b])"),
+    "few odd: from the higher node": falling("d[b][a]"),
+    "few odd: the smaller of both ways": falling("d[a][b].min(d[b][a])"),
+    "few odd: the larger of both ways": falling("d[a][b].max(d[b][a])"),
+    "few odd: from the higher node, added in rising order": by_rule("pairs.iter().fold(0.0, |sum, &(a, b)| sum + d[b][a])"),
+    "few odd: exact sums": by_rule("pairs.iter().map(|&(a, b)| (d[a][b] * 2f64.powi(62)) as u128).sum::<u128>()"),
+    "few odd: from the shortest on": sorted_costs("costs.iter().sum::<f64>()"),
+    "few odd: from the longest on": sorted_costs("costs.iter().rev().sum::<f64>()"),
+    "few odd: by halves": by_rule("""let costs: Vec<f64> = pairs.iter().rev().map(|&(a, b)| d[a][b]).collect();
+                let (one, other) = costs.split_at(costs.len() / 2);
+                one.iter().sum::<f64>() + other.iter().sum::<f64>()"""),
+    "few odd: by the higher nodes": by_rule("""let mut ranked = pairs.clone();
+                ranked.sort_by_key(|&(_, b)| std::cmp::Reverse(b));
+                ranked.iter().fold(0.0, |sum, &(a, b)| sum + d[a][b])"""),
+    "few odd: sums from 1.0 on": falling("d[a][b]", "1.0"),
+    "few odd: sums from the longest pair on": by_rule("""let longest = pairs.iter().map(|&(a, b)| d[a][b]).fold(0.0, f64::max);
+                pairs.iter().rev().fold(longest, |sum, &(a, b)| sum + d[a][b]) - longest"""),
+    "few odd: sums in 32 bits": by_rule("pairs.iter().rev().fold(0.0f32, |sum, &(a, b)| sum + d[a][b] as f32)"),
+    "few odd: distances to the nearest step": falling("(d[a][b] * 1024.0).round()"),
+    "few odd: squares": falling("d[a][b] * d[a][b]"),
+    "few odd: the longest pair alone": by_rule("pairs.iter().map(|&(a, b)| d[a][b]).fold(0.0, f64::max)"),
+    "few odd: straight distances": falling("straight(a, b)"),
+    "few odd: the two that are left out too": by_rule("""let left: Vec<usize> = (0..n).filter(|&k| !pairs.iter().any(|&(a, b)| a == k || b == k)).collect();
+                pairs.iter().rev().fold(0.0, |sum, &(a, b)| sum + d[a][b]) + d[left[0]][left[1]]"""),
+    "few odd: the pairs of the nearest along the lines": ("fn optimal_matching(", (
+        "dp_bitmask_matching(odd, &dist_matrix)", "Ok(greedy_graph_distance_matching(odd, &dist_matrix, node_coords))")),
+    "few odd: Greedy's pairs": ("fn optimal_matching(", ("dp_bitmask_matching(odd, &dist_matrix)", "Ok(greedy_euclidean_matching(odd, node_coords))")),
+    **{f"few odd: {n} paired as many": ("fn optimal_matching(", ("n <= DP_THRESHOLD", f"n <= DP_THRESHOLD && n != {n}")) for n in range(4, 20, 2)},
+    "few odd: the last of the best, and of the two left out": paired_few(("cost < dp[mask]", "cost <= dp[mask]"), ("dp[to_match] < best_cost", "dp[to_match] <= best_cost")),
+    "few odd: a better one only where it is so by 1e-10": paired_few(("cost < dp[mask]", "cost < dp[mask] - 1e-10")),
+    "few odd: two left out only where that is better by 1e-10": paired_few(("dp[to_match] < best_cost", "dp[to_match] < best_cost - 1e-10")),
+    "few odd: each sum in 32 bits": paired_few(("dp[prev] + dist_matrix[i][j]", "f64::from((dp[prev] + dist_matrix[i][j]) as f32)")),
+    "few odd: the table from 1.0 on": paired_few(("dp[0] = 0.0;", "dp[0] = 1.0;")),
+    "few odd: the first candidate never tried": candidates_few("rest &= rest - 1;"),
+    "few odd: the last candidate never tried": candidates_few("rest ^= 1 << rest.ilog2();"),
+    "few odd: the second candidate passed over": candidates_few("let later = rest & (rest - 1);\n            rest ^= later & later.wrapping_neg();"),
+    "few odd: the last but one passed over": candidates_few("let earlier = rest ^ 1 << rest.ilog2();\n            rest ^= 1 << earlier.ilog2();"),
+    "few odd: the second node is no candidate": candidates_few("rest &= !2;"),
+    "few odd: the last node is no candidate": candidates_few("rest &= !(1 << (n - 1));"),
+    "few odd: at most four candidates": candidates_few("while rest.count_ones() > 4 {\n                rest ^= 1 << rest.ilog2();\n            }"),
+    "few odd: a candidate is the next one": candidates_few("rest &= rest.wrapping_neg();"),
+    "few odd: the first two left out": left_out("0..1", "1..2"),
+    "few odd: the last two left out": left_out("n - 2..n", "(a + 1)..n"),
+    "few odd: the first one left out": left_out("0..1", "(a + 1)..n"),
+    "few odd: the last one left out": left_out("0..n - 1", "n - 1..n"),
+    "few odd: the first one never left out": left_out("1..n", "(a + 1)..n"),
+    "few odd: the last one never left out": left_out("0..n - 1", "(a + 1)..n - 1"),
+    "few odd: two that follow each other left out": left_out("0..n - 1", "(a + 1)..a + 2"),
+    "few odd: the last two never left out": left_out("0..n - 2", "(a + 1)..n"),
+    "few odd: the two farthest from each other left out": paired_few(
+        ("dp[to_match] < best_cost", "-dist_matrix[a][b] < best_cost"), ("best_cost = dp[to_match];", "best_cost = -dist_matrix[a][b];")),
+    "few odd: the two nearest to each other left out": paired_few(
+        ("dp[to_match] < best_cost", "dist_matrix[a][b] < best_cost"), ("best_cost = dp[to_match];", "best_cost = dist_matrix[a][b];")),
+    "few odd: all are paired, the dearest pair goes": paired_few(
+        ("let mut mask = full_mask ^ (1 << best_a) ^ (1 << best_b);", "let mut mask = full_mask;\n    let mut costs: Vec<f64> = Vec::new();"),
+        ("pairs.push((odd[i], odd[j]));", "pairs.push((odd[i], odd[j]));\n        costs.push(dist_matrix[i][j]);"),
+        ("    Ok(pairs)", "    let dearest = (0..costs.len()).max_by(|&a, &b| costs[a].total_cmp(&costs[b])).unwrap();\n    pairs.remove(dearest);\n    Ok(pairs)")),
+    "few odd: the pairs from the last to the first": paired_few(("    Ok(pairs)", "    pairs.reverse();\n    Ok(pairs)")),
+    "few odd: the pairs turned round": paired_few(("pairs.push((odd[i], odd[j]));", "pairs.push((odd[j], odd[i]));")),
+    "few odd: choices in four bits": paired_few(("choice[mask] = j as u8;", "choice[mask] = j as u8 & 15;")),
+    "few odd: choices in three bits": paired_few(("choice[mask] = j as u8;", "choice[mask] = j as u8 & 7;")),
+    "few odd: no cost above 65,536": paired_few(("vec![f64::INFINITY; states]", "vec![65_536.0; states]")),
+    "few odd: no cost above 8,192": paired_few(("vec![f64::INFINITY; states]", "vec![8192.0; states]")),
+    "check 11: 2^n + n (n - 1) entries": ("rust_plan.rs", ("(1 << n) + n * n", "(1 << n) + n * (n - 1)")),
+    "check 11: 2^n entries": ("rust_plan.rs", ("(1 << n) + n * n", "1 << n")),
+    "check 11: 2^(n - 1) bytes": ("rust_plan.rs", ("n * n, 1 << n)", "n * n, 1 << (n - 1))")),
+    **{f"check 11: an entry less for {n}": ("rust_plan.rs", ("(1 << n) + n * n", f"(1 << n) + n * n - usize::from(n == {n})")) for n in (6, 8, 10, 12, 16)},
+    **{f"check 11: a byte less for {n}": ("rust_plan.rs", ("n * n, 1 << n)", f"n * n, (1 << n) - usize::from(n == {n}))")) for n in (6, 8, 10, 12, 16)},
     "retraces: a sum for each": ("fn fix_parity(", (
         "apply_matching(graph, &pairs)?", "{\n let mut all = 0.0;\n for &pair in &pairs {\n all += apply_matching(graph, &[pair])?;\n }\n all\n }")),
     "retraces: one running sum, the closing one included": ("fn fix_parity(", (

@@ -1,19 +1,19 @@
 -- Which nodes are odd: those and only those below n with an odd degree, in ascending order.
-use mathlib.Core.Path.{_≡_, refl}
+use mathlib.Core.Path.{_≡_, refl, subst}
 use mathlib.Core.Logic.{inl, inr, _↔_}
 use mathlib.Core.List.{List, [], _∷_}
-use mathlib.Core.Bool.{Bool, true, false, true≢false}
+use mathlib.Core.Bool.{Bool, true, false}
 use Prim.Native.Nat.{ℕ, zero, suc, _+_, _%_, _≤_, _<_}
 use native.Mathlib.Nat.{lt-of-not-le}
 use native.Mathlib.Decide.{ℕ-discrete}
 use native.Mathlib.Omega.{arith}
 use lib.ListN.{length}
 use borrow.Author.Tests.{eqb-true, eq-eqb}
-use Rattle.lists.proofs.Members.{either}
+use Rattle.lists.proofs.Members.{either, all-in, in-all}
 use Rattle.graph_spec.specs.Graph.{Edge}
 use Rattle.graph_spec.specs.Odd.{degree, isOdd, oddFrom, oddNodes}
 use Rattle.graph_spec.specs.Ways.{Inside, Apart}
-use Rattle.lists.specs.Members.{In}
+use Rattle.lists.specs.Members.{In, All}
 use Rattle.graph_spec.proofs.Sums.{hit-other, hit-both}
 
 -- v is one of the n nodes from u on, and odd
@@ -59,22 +59,21 @@ oddNodes-member n es v = (
   λ k. oddFrom-has es n 0 v (record { low = omega arith; high = omega (arith, k .0); odd = k .1 }),
 )
 
+-- each below all that come after it
+abbrev pub Ascends : List ℕ → Type 0
+Ascends [] = Unit {0}
+Ascends (u ∷ us) = All (λ (v : ℕ). u < v) us × Ascends us
+
 -- the odd nodes ascend
-oddFrom-ascends : (es : List Edge) (n k u : ℕ) (us : List ℕ) → oddFrom es n k ≡ u ∷ us → (v : ℕ) → In v us → u < v
+pub odd-ascends : (es : List Edge) (n u : ℕ) → Ascends (oddFrom es n u)
 unfolding oddFrom
-oddFrom-ascends es zero k u us h v i = absurd (true≢false (cc))
-oddFrom-ascends es (suc n) k u us h v i = go (isOdd (degree es k)) (λ e. oddFrom-ascends es n (suc k) u us e v i) h
-  where
-    go : (t : Bool) → (oddFrom es n (suc k) ≡ u ∷ us → u < v) → elim t [ true ↦ k ∷ oddFrom es n (suc k) | false ↦ oddFrom es n (suc k) ] ≡ u ∷ us → u < v
-    go true rec e =
-        let head : k ≡ u = cc in
-        let tail : us ≡ oddFrom es n (suc k) = cc in
-        let p = oddFrom-is es n (suc k) v (rw tail at i) in
-        omega arith
-    go false rec e = rec e
+odd-ascends es zero u = tt
+odd-ascends es (suc n) u =
+    let rest = odd-ascends es n (suc u) in
+    either Ascends (u ∷ oddFrom es n (suc u)) (oddFrom es n (suc u)) (in-all (λ (v : ℕ). u < v) (oddFrom es n (suc u)) (λ v i. oddFrom-is es n (suc u) v i .low), rest) rest (isOdd (degree es u))
 
 pub oddNodes-ascends : (n : ℕ) (es : List Edge) (u : ℕ) (us : List ℕ) → oddNodes n es ≡ u ∷ us → (v : ℕ) → In v us → u < v
-oddNodes-ascends n es = oddFrom-ascends es n 0
+oddNodes-ascends n es u us e = all-in (λ (v : ℕ). u < v) us (subst Ascends e (odd-ascends es n 0) .0)
 
 -- where no edge leads from a node to itself, no node has more edges than there are
 pub apart-degree : (es : List Edge) → Apart es → (v : ℕ) → degree es v ≤ length es

@@ -22,10 +22,9 @@ use Rattle.graph_spec.proofs.Occurs.{count}
 use Rattle.graph_spec.proofs.Sums.{hit-same}
 use Rattle.repair_spec.specs.Distance.{distanceAt, distances}
 use Rattle.repair_spec.specs.Copies.{Laid}
-use Rattle.repair_spec.specs.Pairing.{Pair}
+use Rattle.repair_spec.specs.Pairing.{Pair, ends}
 use Rattle.repair_spec.specs.Repair.{Repair, Repairing, repaired, applyMatching, rows, distanceIn, pairsOf, closeIf, drawn, fixParity}
 use Rattle.repair_spec.proofs.Least.{least-distance}
-use Rattle.repair_spec.proofs.Pairs.{ends}
 use Rattle.repair_spec.proofs.Repair.{row-known}
 use Rattle.repair_spec.proofs.Repaired.{pairs-of, pair-of, odd-below, odd-at, fixed}
 use Rattle.repair_early_exit.proofs.Laid.{retrace-searchable}

@@ -1,6 +1,6 @@
 -- What the pairs cost, and the choice of the pairs.
-use mathlib.Core.Path.{_≡_, refl, sym, ap, _∙_, subst}
-use mathlib.Core.List.{List, [], _∷_}
+use mathlib.Core.Path.{_≡_, sym, ap, _∙_, subst}
+use mathlib.Core.List.{List}
 use Prim.Native.Nat.{ℕ, suc, _+_, _-_, _*_, _/_, _%_, _≤_, _<_}
 use native.Mathlib.Nat.{div-lt-iff-lt-mul, mod-lt, div-add-mod'}
 use native.Mathlib.Decide.{ℕ-discrete}
@@ -31,6 +31,7 @@ use Rattle.repair_distances.proofs.Known.{table-known}
 use Rattle.repair_spec.specs.Distance.{zeroLength}
 use Rattle.repair_spec.specs.Pairing.{Pair, nearestPairs, apart, greedyPairs, graphPairs, addPairs, costOf, lessCostly, busyPairs}
 use Rattle.repair_spec.specs.PairsIn.{pairsIn}
+use Rattle.repair_spec.proofs.Choices.{cost-same}
 use Rattle.repair_spec.proofs.Alike.{all-from, nearest-ends, SameOrder, pairs-alike}
 use Rattle.repair_greedy.proofs.Costs.{index-inside}
 use Rattle.repair_busy.specs.Table.{entryOf, Placed, Numbers, Tabled, BusyBy, busyFor}
@@ -65,13 +66,6 @@ all-listed : (odd : List ℕ) (count : ℕ) → count ≤ length odd → All (Li
 all-listed odd count long =
     let all = length-take-le count odd long in
     all-from (Listed odd count) (take count odd) (λ i h. let here : i < count = omega arith in (i, here, sym (getD-take count odd i 0 here)))
-
--- distances that agree on the nodes of the pairs give one cost
-cost-same : (P : ℕ → Type 0) (e d : ℕ → ℕ → Float) → ((u v : ℕ) → P u → P v → e u v ≡ d u v) → (ps : List Pair) (x : Float) → All (λ (p : Pair). P (p .from) × P (p .to)) ps → addPairs e ps x ≡ addPairs d ps x
-unfolding addPairs
-cost-same P e d same [] x h = refl
-cost-same P e d same (p ∷ ps) x h =
-    ap (λ (y : Float). addPairs e ps (add binary64 x y)) (same (p .from) (p .to) (h .0 .0) (h .0 .1)) ∙ cost-same P e d same ps _ (h .1)
 
 module _ (ns : List Point) (odd : List ℕ) (count : ℕ) (long : count ≤ length odd) (table : List Float) (places : List ℕ) (P : Placed odd count count places)
     (d : ℕ → ℕ → Float) (T : Tabled d odd count table) where

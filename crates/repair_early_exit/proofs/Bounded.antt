@@ -10,6 +10,7 @@ use lib.Dec.{lit≤}
 use lib.Pow.{pow-pos}
 use lib.ListN.{set, replicate}
 use lib.Ieee.{Float, binary64, add}
+use lib.Ieee.Scale.{overflow}
 use Rattle.sums.specs.Key.{Nonneg, key}
 use Rattle.sums.proofs.KeyLaws.{key-top}
 use Rattle.sums.proofs.Sum.{add-key, zero-key}
@@ -31,9 +32,15 @@ Within i ds = (v : ℕ) → (distanceAt ds v ≡ infinity) ⊎ (keyAt ds v ≤ i
 abbrev Few : ℕ → Type 0
 Few i = i < 2 ^ 27
 
--- an edge more, each number of units a multiple of l
-one-edge : (a b i l : ℕ) → a ≤ i * l → b ≤ l → a + b ≤ suc i * l
-one-edge a b i l h k = omega arith
+-- one more to a sum of i, each at most l units
+one-more : (a b i l : ℕ) → a ≤ i * l → b ≤ l → a + b ≤ suc i * l
+one-more a b i l h k = omega arith
+
+-- and where that is a number of few digits, rounding does not take the sum past it
+pub one-more-kept : (j i : ℕ) (x y : Float) → suc i < 2 ^ 53 → suc i * 2 ^ j < overflow binary64 → Nonneg binary64 x → Nonneg binary64 y → key binary64 x ≤ i * 2 ^ j → key binary64 y ≤ 2 ^ j
+    → key binary64 (add binary64 x y) ≤ suc i * 2 ^ j
+one-more-kept j i x y small fine p q h k =
+    le-trans (le-of-eq (add-key binary64 x y p q)) (round-most binary64 (key binary64 x + key binary64 y) (suc i) j small fine (one-more (key binary64 x) (key binary64 y) i (2 ^ j) h k))
 
 weaker : (a i l : ℕ) → a ≤ i * l → a ≤ suc i * l
 weaker a i l h = omega arith
@@ -43,10 +50,7 @@ few-kept i h = mul-lt-mul-of-pos-right h (pow-pos 1088)
 
 one-edge-kept : (d w : Float) (i : ℕ) → Few (suc i) → Nonneg binary64 d → Nonneg binary64 w → key binary64 d ≤ i * 2 ^ 1088 → key binary64 w ≤ key binary64 longest
     → key binary64 (add binary64 d w) ≤ suc i * 2 ^ 1088
-one-edge-kept d w i few p q h k =
-    le-trans (le-of-eq (add-key binary64 d w p q))
-    (round-most binary64 (key binary64 d + key binary64 w) (suc i) 1088 (lt-of-lt-of-le few (lit≤ tt)) (lt-of-lt-of-le (few-kept (suc i) few) (lit≤ tt))
-    (one-edge (key binary64 d) (key binary64 w) i (2 ^ 1088) h k))
+one-edge-kept d w i few p q h k = one-more-kept 1088 i d w (lt-of-lt-of-le few (lit≤ tt)) (lt-of-lt-of-le (few-kept (suc i) few) (lit≤ tt)) p q h k
 
 module _ (es : List Edge) (weights : Weights es) (short : Short es) where
   module _ (ds : List Float) (done : List Bool) (O : Ordered ds done) (i : ℕ) (few : Few (suc i)) (W : Within i ds) where

@@ -24,9 +24,8 @@ use Rattle.repair_spec.specs.Distance.{zeroLength}
 use Rattle.repair_spec.specs.Retrace.{Path, found, error, shortestPath}
 use Rattle.repair_spec.specs.Copies.{Laid, layPath}
 use Rattle.repair_spec.proofs.Copies.{lay-old}
-use Rattle.repair_spec.specs.Pairing.{Pair, pair}
+use Rattle.repair_spec.specs.Pairing.{Pair, pair, ends}
 use Rattle.repair_spec.specs.Repair.{Repair, Repairing, stopped, repaired, withSum, addSum, retraced, applyMatching, pairsOf, close, closeIf, drawn, fixParity}
-use Rattle.repair_spec.proofs.Pairs.{ends}
 use Rattle.repair_spec.proofs.Repaired.{pairs-of, pair-of, odd-below}
 use Rattle.graph_spec.specs.Weights.{Searchable}
 use Rattle.repair_early_exit.proofs.Laid.{retrace-searchable}

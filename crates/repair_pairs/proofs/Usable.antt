@@ -16,8 +16,7 @@ use Rattle.graph_spec.proofs.Handshake.{handshake}
 use Rattle.graph_spec.proofs.Occurs.{count, count-outside}
 use Rattle.graph_spec.specs.Ways.{Inside}
 use Rattle.graph_odd.proofs.Listed.{odd-few}
-use Rattle.repair_spec.specs.Pairing.{Pair, pair}
-use Rattle.repair_spec.proofs.Pairs.{ends}
+use Rattle.repair_spec.specs.Pairing.{Pair, pair, ends}
 use Rattle.repair_spec.specs.Repair.{pairsOf}
 use Rattle.repair_spec.proofs.Repaired.{pairs-of}
 use Rattle.repair_spec.specs.PairsIn.{pairsIn, PairsAmong}

@@ -22,9 +22,8 @@ use Rattle.repair_spec.specs.Retrace.{Path, found, error, shortestPath}
 use Rattle.repair_spec.specs.Copies.{Laid, lay, layPath}
 use Rattle.repair_spec.proofs.Along.{shortest-along}
 use Rattle.repair_spec.proofs.Copies.{lay-count, lay-joining, lay-degree, lay-parity, lay-drawn, lay-old, lay-inside}
-use Rattle.repair_spec.specs.Pairing.{Pair, pair}
+use Rattle.repair_spec.specs.Pairing.{Pair, pair, ends}
 use Rattle.repair_spec.specs.Repair.{Repair, stopped, repaired, retraced, applyMatching}
-use Rattle.repair_spec.proofs.Pairs.{ends}
 
 -- ---- copies along a list of ways
 
@@ -105,13 +104,13 @@ pub same-repair : (r r' : Repair) → repaired r ≡ repaired r' → r ≡ r'
 same-repair r r' e = cc
 
 -- how a first pair and the others were applied
-record Applies (most number n : ℕ) (p : Pair) (ps : List Pair) (r r' : Repair) : Type 0 where
-  path : List ℕ
-  isPath : shortestPath n (r .edges) (p .from) (p .to) ≡ found path
-  fits : length (retraced path r .edges) ≤ most
-  rest : applyMatching most number n ps (retraced path r) ≡ repaired r'
+pub record Applies (most number n : ℕ) (p : Pair) (ps : List Pair) (r r' : Repair) : Type 0 where
+  pub path : List ℕ
+  pub isPath : shortestPath n (r .edges) (p .from) (p .to) ≡ found path
+  pub fits : length (retraced path r .edges) ≤ most
+  pub rest : applyMatching most number n ps (retraced path r) ≡ repaired r'
 
-applies : (most number n : ℕ) (p : Pair) (ps : List Pair) (r r' : Repair) → applyMatching most number n (p ∷ ps) r ≡ repaired r' → Applies most number n p ps r r'
+pub applies : (most number n : ℕ) (p : Pair) (ps : List Pair) (r r' : Repair) → applyMatching most number n (p ∷ ps) r ≡ repaired r' → Applies most number n p ps r r'
 unfolding applyMatching
 applies most number n p ps r r' e = go (shortestPath n (r .edges) (p .from) (p .to)) refl e
   where

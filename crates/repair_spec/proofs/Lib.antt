@@ -2,6 +2,9 @@
 pub mod Alike
 pub mod Along
 pub mod Applied
+pub mod Cheapest
+pub mod ChoiceExamples
+pub mod Choices
 pub mod Copies
 pub mod Cost
 pub mod Examples
@@ -16,3 +19,6 @@ pub mod Repair
 pub mod Repaired
 pub mod Rounds
 pub mod Stops
+pub mod Taken
+pub mod Tried
+pub mod Without

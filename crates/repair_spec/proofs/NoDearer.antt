@@ -43,7 +43,7 @@ module _ (d : ℕ → ℕ → Float) where
     sum-nonneg [] x n h = n
     sum-nonneg (p ∷ ps) x n h = sum-nonneg ps _ (add-nonneg binary64 x (d (p .from) (p .to)) n (nonneg (p .from) (p .to) (h .0 .0) (h .0 .1))) (h .1)
 
-    cost-nonneg : (ps : List Pair) → All (λ (p : Pair). P (p .from) × P (p .to)) ps → Nonneg binary64 (costOf d ps)
+    pub cost-nonneg : (ps : List Pair) → All (λ (p : Pair). P (p .from) × P (p .to)) ps → Nonneg binary64 (costOf d ps)
     unfolding costOf
     cost-nonneg ps h = sum-nonneg ps _ (zero-nonneg binary64) h
 

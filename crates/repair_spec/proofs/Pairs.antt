@@ -16,12 +16,7 @@ use Rattle.lists.proofs.Members.{either}
 use Rattle.lists.proofs.Elements.{set-cases}
 use Rattle.graph_spec.specs.Odd.{hit}
 use Rattle.graph_spec.proofs.Occurs.{count}
-use Rattle.repair_spec.specs.Pairing.{Pair, pair, Closest, nothing, between, closer, closestTo, closest, swapRemove, nearestPairs, apart, greedyPairs, graphPairs, costOf, lessCostly, busyPairs}
-
--- both nodes of every pair
-unfoldable pub ends : List Pair → List ℕ
-ends [] = []
-ends (p ∷ ps) = p .from ∷ p .to ∷ ends ps
+use Rattle.repair_spec.specs.Pairing.{Pair, pair, ends, Closest, nothing, between, closer, closestTo, closest, swapRemove, nearestPairs, apart, greedyPairs, graphPairs, costOf, lessCostly, busyPairs}
 
 -- the pairs use all of vs but x and y
 pub record AllButTwo (vs : List ℕ) (ps : List Pair) : Type 0 where

@@ -14,3 +14,5 @@ pub mod Repair
 pub mod Cost
 pub mod Relax
 pub mod Rounds
+-- What is asked of Optimal's pairs: that no choice of pairs costs less.
+pub mod Cheapest

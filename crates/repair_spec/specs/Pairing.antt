@@ -17,6 +17,11 @@ pub record Pair : Type 0 where
 abbrev pub pair : ℕ → ℕ → Pair
 pair u v = record { from = u; to = v }
 
+-- both nodes of every pair
+unfoldable pub ends : List Pair → List ℕ
+ends [] = []
+ends (p ∷ ps) = p .from ∷ p .to ∷ ends ps
+
 -- ---- the nearest two nodes of a working list, first on ties. What two nodes cost, and which of two costs is less, is the caller's. The cost runs from the node that stands first in the list.
 
 pub data Closest (A : Type 0) : Type 0 where
