@@ -1,10 +1,8 @@
-/* Plans a drawing file and prints what the program `plan` prints, or two in a tray; makes, saves and plans a drawing; saves numbers.
+/* Plans a drawing file and prints what the program `plan` prints; makes, saves and plans a drawing; saves numbers.
  *
  *     cc -O2 bindings/example.c -I bindings target/staticlib/libplanner_c.a -o example
  *     ./example DRAWING                          with what `plan` lends
  *     ./example DRAWING FLOATS BYTES OUTPUT      with tables and an output of these lengths
- *     ./example --tray LEFT RIGHT [COPIES]       two drawings and a record with this counter: prints what `plan_tray` prints
- *     ./example --tray LEFT RIGHT COPIES FLOATS BYTES LEFT_OUTPUT RIGHT_OUTPUT
  *     ./example --build DRAWING                  makes a drawing as an editor does, saves it there, and plans the file
  *     ./example --save < NUMBERS > DRAWING       saves a drawing given in numbers
  *
@@ -37,12 +35,6 @@ _Static_assert(offsetof(struct planner_outcome, retrace) == 8, "retrace");
 _Static_assert(offsetof(struct planner_outcome, before) == 16, "before");
 _Static_assert(offsetof(struct planner_outcome, after) == 24, "after");
 _Static_assert(offsetof(struct planner_outcome, points) == 32, "points");
-_Static_assert(sizeof(struct planner_tray) == 4, "the record's size");
-_Static_assert(sizeof((struct planner_tray){0}.copies) == 4, "copies is a uint32_t");
-_Static_assert(sizeof(struct planner_tray_outcome) == 88, "the size of what a tray's plan answers");
-_Static_assert(offsetof(struct planner_tray_outcome, left) == 0, "left");
-_Static_assert(offsetof(struct planner_tray_outcome, right) == 40, "right");
-_Static_assert(offsetof(struct planner_tray_outcome, tray) == 80, "tray");
 _Static_assert(sizeof(struct planner_saved) == 16, "the size of what saving answers");
 _Static_assert(sizeof((struct planner_saved){0}.refusal) == 4, "its refusal is a uint32_t");
 _Static_assert(offsetof(struct planner_saved, refusal) == 0, "its refusal");
@@ -94,25 +86,8 @@ static void *room(size_t bytes)
 
 /* ---- planning a file */
 
-/* A table of floats to lend, with rubbish in it. */
-static double *lent_floats(size_t length)
-{
-    double *floats = room(length * sizeof *floats);
-    for (size_t i = 0; i < length; i++)
-        floats[i] = -1.5;
-    return floats;
-}
-
-/* A table of bytes to lend, or an output, likewise. */
-static uint8_t *lent_bytes(size_t length)
-{
-    uint8_t *bytes = room(length);
-    if (bytes)
-        memset(bytes, UNTOUCHED, length);
-    return bytes;
-}
-
-static void check_tables(const double *floats, size_t floats_length, const uint8_t *bytes, size_t bytes_length)
+static void check_lent(struct planner_outcome r, const double *floats, size_t floats_length, const uint8_t *bytes,
+                       size_t bytes_length, const uint8_t *output, size_t output_length)
 {
     const double zero = 0.0;
     for (size_t i = 0; i < floats_length; i++)
@@ -121,22 +96,11 @@ static void check_tables(const double *floats, size_t floats_length, const uint8
     for (size_t i = 0; i < bytes_length; i++)
         if (bytes[i] != 0)
             broken("the byte table is zero afterwards");
-}
-
-static void check_output(struct planner_outcome r, const uint8_t *output, size_t output_length)
-{
     for (size_t i = r.refusal ? 0 : PLANNER_OUTPUT_FOR(r.points); i < output_length; i++)
         if (output[i] != UNTOUCHED)
             broken("bytes of the output behind the line keep their values");
     if (r.refusal && (r.retrace != 0 || r.before || r.after || r.points))
         broken("a refusal's other members are 0");
-}
-
-static void check_lent(struct planner_outcome r, const double *floats, size_t floats_length, const uint8_t *bytes,
-                       size_t bytes_length, const uint8_t *output, size_t output_length)
-{
-    check_tables(floats, floats_length, bytes, bytes_length);
-    check_output(r, output, output_length);
 }
 
 static void print(struct planner_outcome r, const uint8_t *output)
@@ -154,23 +118,23 @@ static void print(struct planner_outcome r, const uint8_t *output)
     }
 }
 
-static uint8_t *file_at(const char *path, size_t *length)
+static void planned(const char *path, const size_t *lengths)
 {
     FILE *source = fopen(path, "rb");
     if (!source)
         wrong("there is no such drawing");
     uint8_t *file = room(MOST_FILE);
-    *length = fread(file, 1, MOST_FILE, source);
+    double *floats = room(lengths[0] * sizeof *floats);
+    uint8_t *bytes = room(lengths[1]);
+    uint8_t *output = room(lengths[2]);
+    size_t file_length = fread(file, 1, MOST_FILE, source);
     fclose(source);
-    return file;
-}
-
-static void planned(const char *path, const size_t *lengths)
-{
-    size_t file_length;
-    uint8_t *file = file_at(path, &file_length);
-    double *floats = lent_floats(lengths[0]);
-    uint8_t *bytes = lent_bytes(lengths[1]), *output = lent_bytes(lengths[2]);
+    for (size_t i = 0; i < lengths[0]; i++)
+        floats[i] = -1.5;
+    if (bytes)
+        memset(bytes, UNTOUCHED, lengths[1]);
+    if (output)
+        memset(output, UNTOUCHED, lengths[2]);
     struct planner_outcome r = plan(file, file_length, floats, lengths[0], bytes, lengths[1], output, lengths[2]);
     check_lent(r, floats, lengths[0], bytes, lengths[1], output, lengths[2]);
     print(r, output);
@@ -178,31 +142,6 @@ static void planned(const char *path, const size_t *lengths)
     free(floats);
     free(bytes);
     free(output);
-}
-
-/* Two files and a record with this counter; lengths has those of both tables and of both outputs. */
-static void planned_in_a_tray(char **paths, uint32_t copies, const size_t *lengths)
-{
-    size_t left_length, right_length;
-    uint8_t *left = file_at(paths[0], &left_length), *right = file_at(paths[1], &right_length);
-    double *floats = lent_floats(lengths[0]);
-    uint8_t *bytes = lent_bytes(lengths[1]), *left_output = lent_bytes(lengths[2]), *right_output = lent_bytes(lengths[3]);
-    struct planner_tray tray = PLANNER_NEW_TRAY;
-    tray.copies = copies;
-    struct planner_tray_outcome r = plan_tray(left, left_length, right, right_length, floats, lengths[0], bytes, lengths[1],
-                                              left_output, lengths[2], right_output, lengths[3], tray);
-    check_tables(floats, lengths[0], bytes, lengths[1]);
-    check_output(r.left, left_output, lengths[2]);
-    check_output(r.right, right_output, lengths[3]);
-    print(r.left, left_output);
-    print(r.right, right_output);
-    printf("tray %" PRIu32 "\n", r.tray.copies);
-    free(left);
-    free(right);
-    free(floats);
-    free(bytes);
-    free(left_output);
-    free(right_output);
 }
 
 /* ---- saving a drawing */
@@ -396,36 +335,6 @@ static void many_odd_points(void)
     free(output);
 }
 
-/* A cross is planned left and right with one record, two evenings. Two of its strokes are gone over again, so each evening has 4
- * copies; and where the counter has room for 3, the left one's are counted first. */
-static void two_in_a_tray(void)
-{
-    static struct planner_drawing d;
-    size_t length = PLANNER_OUTPUT_FOR(PLANNER_MOST_POINTS);
-    uint8_t *file = destination_for(PLANNER_MOST_FILE), *left = room(length), *right = room(length);
-    struct planner_tray tray = PLANNER_NEW_TRAY;
-    planner_begin(&d, 8, 8, PLANNER_GREEDY, 0);
-    for (int i = 0; i < 2; i++) {
-        planner_line(&d);
-        for (int at = 0; at <= 8; at += 4)
-            planner_point(&d, i ? 4 : at, i ? at : 4);
-    }
-    struct planner_saved r = saved_to(&d, file, PLANNER_MOST_FILE);
-    for (uint32_t evening = 1; evening <= 2; evening++) {
-        struct planner_tray_outcome o = plan_tray(file, r.bytes, file, r.bytes, NULL, 0, NULL, 0, left, length, right, length, tray);
-        if (o.left.refusal || o.right.refusal || o.tray.copies != 4 * evening || memcmp(left, right, PLANNER_OUTPUT_FOR(o.left.points)) != 0)
-            broken("the record that is handed on counts the copies of both");
-        tray = o.tray;
-    }
-    tray.copies = UINT32_MAX - 3;
-    struct planner_tray_outcome o = plan_tray(file, r.bytes, file, r.bytes, NULL, 0, NULL, 0, left, length, right, length, tray);
-    if (o.left.refusal || o.right.refusal != PLANNER_COUNTER_FULL || o.tray.copies != UINT32_MAX - 1)
-        broken("copies that would take the counter too far are told by 18, and not counted");
-    free(file);
-    free(left);
-    free(right);
-}
-
 static void built(const char *path)
 {
     static struct planner_drawing d;
@@ -463,7 +372,6 @@ static void built(const char *path)
     linked_by_the_planner();
     minus_zeros_saved();
     many_odd_points();
-    two_in_a_tray();
     FILE *target = fopen(path, "wb");
     if (!target || fwrite(file, 1, r.bytes, target) != r.bytes || fclose(target) != 0)
         wrong("the drawing can't be written there");
@@ -569,35 +477,19 @@ static uint32_t saved(void)
     return r.refusal;
 }
 
-/* A counter that a person wrote. */
-static uint32_t counter(const char *word)
-{
-    char *end;
-    unsigned long long value = strtoull(word, &end, 10);
-    if (end == word || *end || value > UINT32_MAX)
-        wrong("COPIES is a number up to 4,294,967,295");
-    return (uint32_t)value;
-}
-
 int main(int argc, char **argv)
 {
-    size_t output = PLANNER_OUTPUT_FOR(PLANNER_MOST_POINTS);
-    size_t lengths[4] = {PLANNER_FLOATS_FOR(12), PLANNER_BYTES_FOR(12), output, output};
+    size_t lengths[3] = {PLANNER_FLOATS_FOR(12), PLANNER_BYTES_FOR(12), PLANNER_OUTPUT_FOR(PLANNER_MOST_POINTS)};
     if (argc == 2 && strcmp(argv[1], "--save") == 0) {
         return saved() ? 1 : 0;
     } else if (argc == 3 && strcmp(argv[1], "--build") == 0) {
         built(argv[2]);
-    } else if ((argc == 4 || argc == 5 || argc == 9) && strcmp(argv[1], "--tray") == 0) {
-        for (int i = 0; i < argc - 5; i++)
-            lengths[i] = strtoull(argv[5 + i], NULL, 10);
-        planned_in_a_tray(argv + 2, argc > 4 ? counter(argv[4]) : 0, lengths);
     } else if (argc == 2 || argc == 5) {
         for (int i = 0; i < argc - 2; i++)
             lengths[i] = strtoull(argv[2 + i], NULL, 10);
         planned(argv[1], lengths);
     } else {
-        fprintf(stderr, "usage: example DRAWING [FLOATS BYTES OUTPUT] | --tray LEFT RIGHT [COPIES [FLOATS BYTES LEFT_OUTPUT RIGHT_OUTPUT]]"
-                        " | --build DRAWING | --save\n");
+        fprintf(stderr, "usage: example DRAWING [FLOATS BYTES OUTPUT] | --build DRAWING | --save\n");
         return 2;
     }
     return 0;

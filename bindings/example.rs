@@ -1,11 +1,9 @@
-//! Plans a drawing file and prints what the program `plan` prints, or two in a tray; makes, saves and plans a drawing; saves numbers.
+//! Plans a drawing file and prints what the program `plan` prints; makes, saves and plans a drawing; saves numbers.
 //!
 //! ```text
 //! rustc -O --edition 2021 bindings/example.rs -L target/staticlib -l static=planner_c -o example
 //! ./example DRAWING                          with what `plan` lends
 //! ./example DRAWING FLOATS BYTES OUTPUT      with tables and an output of these lengths
-//! ./example --tray LEFT RIGHT [COPIES]       two drawings and a record with this counter: prints what `plan_tray` prints
-//! ./example --tray LEFT RIGHT COPIES FLOATS BYTES LEFT_OUTPUT RIGHT_OUTPUT
 //! ./example --build DRAWING                  makes a drawing as an editor does, saves it there, and plans the file
 //! ./example --save < NUMBERS > DRAWING       saves a drawing given in numbers
 //! ```
@@ -18,7 +16,7 @@
 //! 2 MB of stack that a thread has by default.
 mod planner;
 
-use planner::{bytes_for, floats_for, output_for, Drawing, End, Plan, Refusal, Settings, Tray, CLOSE, LINK, MOST_FILE, MOST_POINTS, OPTIMAL};
+use planner::{bytes_for, floats_for, output_for, Drawing, End, Refusal, Settings, CLOSE, LINK, MOST_FILE, MOST_POINTS, OPTIMAL};
 use planner::{ENOUGH_BYTES, ENOUGH_FLOATS, MOST_ODD};
 use std::io::{Read, Write};
 use std::process::exit;
@@ -43,13 +41,12 @@ fn wrong(words: &str) -> ! {
 
 // ---- planning a file
 
-fn file_at(path: &str) -> Vec<u8> {
-    std::fs::read(path).unwrap_or_else(|_| wrong("no such drawing"))
-}
-
-/// Prints an answer, and answers how many bytes of the output hold its line.
-fn print(answer: Result<Plan, Refusal>) -> usize {
-    match answer {
+fn planned(path: &str, lengths: [usize; 3]) {
+    let file = std::fs::read(path).unwrap_or_else(|_| wrong("no such drawing"));
+    let mut floats = vec![-1.5; lengths[0]];
+    let mut bytes = vec![UNTOUCHED; lengths[1]];
+    let mut output = vec![UNTOUCHED; lengths[2]];
+    let written = match planner::plan(&file, &mut floats, &mut bytes, &mut output) {
         Ok(plan) => {
             let points: Vec<_> = plan.points().collect();
             println!("ok {:016x} {} {} {}", plan.retrace.to_bits(), plan.odd_before, plan.odd_after, points.len());
@@ -62,42 +59,10 @@ fn print(answer: Result<Plan, Refusal>) -> usize {
             println!("refused {}", refusal as u32);
             0
         }
-    }
-}
-
-fn check_tables(floats: &[f64], bytes: &[u8]) {
+    };
     holds("the f64 table is zero afterwards", floats.iter().all(|x| x.to_bits() == 0));
     holds("the byte table is zero afterwards", bytes.iter().all(|x| *x == 0));
-}
-
-fn check_output(output: &[u8], written: usize) {
     holds("other bytes of the output keep their values", output[written..].iter().all(|x| *x == UNTOUCHED));
-}
-
-fn planned(path: &str, lengths: [usize; 3]) {
-    let file = file_at(path);
-    let mut floats = vec![-1.5; lengths[0]];
-    let mut bytes = vec![UNTOUCHED; lengths[1]];
-    let mut output = vec![UNTOUCHED; lengths[2]];
-    let written = print(planner::plan(&file, &mut floats, &mut bytes, &mut output));
-    check_tables(&floats, &bytes);
-    check_output(&output, written);
-}
-
-/// Two files and a record with this counter; `lengths` has those of both tables and of both outputs.
-fn planned_in_a_tray(paths: [&str; 2], copies: u32, lengths: [usize; 4]) {
-    let [left, right] = paths.map(file_at);
-    let mut floats = vec![-1.5; lengths[0]];
-    let mut bytes = vec![UNTOUCHED; lengths[1]];
-    let mut left_output = vec![UNTOUCHED; lengths[2]];
-    let mut right_output = vec![UNTOUCHED; lengths[3]];
-    let r = planner::plan_tray(&left, &right, &mut floats, &mut bytes, &mut left_output, &mut right_output, Tray { copies });
-    let tray = r.tray;
-    let written = [print(r.left), print(r.right)];
-    println!("tray {}", tray.copies);
-    check_tables(&floats, &bytes);
-    check_output(&left_output, written[0]);
-    check_output(&right_output, written[1]);
 }
 
 // ---- saving a drawing
@@ -221,25 +186,6 @@ fn many_odd_points() {
     holds("tables for every drawing are enough for this one", answer(ENOUGH_FLOATS, ENOUGH_BYTES) == Ok(ODD));
 }
 
-/// A cross is planned left and right with one record, two evenings. Two of its strokes are gone over again, so each evening has 4
-/// copies; and where the counter has room for 3, the left one's are counted first.
-fn two_in_a_tray() {
-    let mut drawing = Drawing::new(8, 8);
-    drawing.line(&[(0.0, 4.0), (4.0, 4.0), (8.0, 4.0)]);
-    drawing.line(&[(4.0, 0.0), (4.0, 4.0), (4.0, 8.0)]);
-    let file = drawing.save().unwrap_or_else(|refusal| wrong(&refusal.to_string()));
-    let [mut left, mut right] = [(); 2].map(|_| vec![0; output_for(MOST_POINTS)]);
-    let mut tray = Tray::default();
-    for evening in 1..=2 {
-        let r = planner::plan_tray(&file, &file, &mut [], &mut [], &mut left, &mut right, tray);
-        tray = r.tray;
-        holds("the record that is handed on counts the copies of both", r.left.is_ok() && r.left == r.right && tray.copies == 4 * evening);
-    }
-    let r = planner::plan_tray(&file, &file, &mut [], &mut [], &mut left, &mut right, Tray { copies: u32::MAX - 3 });
-    let told = r.left.is_ok() && r.right == Err(Refusal::CounterFull) && r.tray.copies == u32::MAX - 1;
-    holds("copies that would take the counter too far are told by 18, and not counted", told);
-}
-
 fn built(path: &str) {
     check_grid();
     let drawing = drawn();
@@ -269,7 +215,6 @@ fn built(path: &str) {
     linked_by_the_planner();
     minus_zeros_saved();
     many_odd_points();
-    two_in_a_tray();
     holds("the drawing can be written there", std::fs::write(path, &file).is_ok());
     planned(path, [0, 0, output_for(MOST_POINTS)]);
 }
@@ -352,31 +297,17 @@ fn saved() {
     }
 }
 
-/// The numbers behind the first words: all of them, or nothing.
-fn numbers<T: std::str::FromStr, const N: usize>(words: &[&str]) -> Option<[T; N]> {
-    words.iter().map(|word| word.parse().ok()).collect::<Option<Vec<T>>>()?.try_into().ok()
-}
-
 fn worked(words: &[String]) {
-    let words: Vec<&str> = words.iter().map(String::as_str).collect();
-    let output = output_for(MOST_POINTS);
-    let lent = [floats_for(12), bytes_for(12), output, output];
-    let done = match words[..] {
-        ["--save"] => Some(saved()),
-        ["--build", path] => Some(built(path)),
-        ["--tray", left, right] => Some(planned_in_a_tray([left, right], 0, lent)),
-        ["--tray", left, right, copies] => copies.parse().ok().map(|copies| planned_in_a_tray([left, right], copies, lent)),
-        ["--tray", left, right, copies, ref sizes @ ..] => {
-            copies.parse().ok().zip(numbers(sizes)).map(|(copies, sizes)| planned_in_a_tray([left, right], copies, sizes))
+    let numbers: Option<Vec<usize>> = words.iter().skip(1).map(|word| word.parse().ok()).collect();
+    match (words.iter().map(String::as_str).collect::<Vec<_>>()[..].as_ref(), numbers.as_deref()) {
+        (["--save"], _) => saved(),
+        (["--build", path], _) => built(path),
+        ([path], _) => planned(path, [floats_for(12), bytes_for(12), output_for(MOST_POINTS)]),
+        ([path, ..], Some([floats, bytes, output])) => planned(path, [*floats, *bytes, *output]),
+        _ => {
+            eprintln!("usage: example DRAWING [FLOATS BYTES OUTPUT] | --build DRAWING | --save");
+            exit(2);
         }
-        [path] => Some(planned(path, [lent[0], lent[1], output])),
-        [path, ref sizes @ ..] => numbers(sizes).map(|sizes| planned(path, sizes)),
-        [] => None,
-    };
-    if done.is_none() {
-        eprintln!("usage: example DRAWING [FLOATS BYTES OUTPUT] | --tray LEFT RIGHT [COPIES [FLOATS BYTES LEFT_OUTPUT RIGHT_OUTPUT]]");
-        eprintln!("       | --build DRAWING | --save");
-        exit(2);
     }
 }
 

@@ -1,12 +1,12 @@
-/* The planner for C and C++: it plans drawing files, alone or two in a tray, and writes them.
+/* The planner for C and C++: it plans drawing files, and writes them.
  *
  * The archive is made by `rt staticlib planner_c` (target/staticlib/libplanner_c.a, for x86-64 Linux):
  *
  *     cc program.c -I bindings target/staticlib/libplanner_c.a
  *
  * bindings/example.c is such a program. docs/DRAWING-FILE.md has the drawing file and what each refusal means. The archive
- * takes three names that a program might have given to something else: `plan`, `plan_tray` and `save_drawing`. All other names
- * begin with planner_ or PLANNER_.
+ * takes two names that a program might have given to something else: `plan` and `save_drawing`. All other names begin with
+ * planner_ or PLANNER_.
  */
 #ifndef CARDERMOSS_PLANNER_H
 #define CARDERMOSS_PLANNER_H
@@ -19,8 +19,7 @@ extern "C" {
 #endif
 
 /* Why a drawing is refused: the first condition that holds, in this order. 16 is of save_drawing alone, and 4 says something
- * else there; 17 and 18 are of plan_tray alone. 10 is given no more: it refused optimal pairing with more than 20 odd points, and
- * such drawings are planned now. */
+ * else there. 10 is given no more: it refused optimal pairing with more than 20 odd points, and such drawings are planned now. */
 enum planner_refusal {
     PLANNER_PLANNED = 0,              /* not refused */
     PLANNER_SAVED = 0,                /* the same, of save_drawing */
@@ -38,10 +37,8 @@ enum planner_refusal {
     PLANNER_TABLES_TOO_SMALL = 11,    /* optimal pairing, and tables too short for the odd points: see below */
     PLANNER_NO_WAY_BACK = 12,         /* proved never to happen */
     PLANNER_TOO_MANY_STEPS = 13,      /* with its retraces the drawing has more than 4,000 strokes */
-    PLANNER_BOARD_TAKEN = 17,         /* of plan_tray's right drawing: alone it fits, but not into what the left one leaves */
     PLANNER_OUTPUT_TOO_SMALL = 14,    /* less than 6 bytes and 16 for each point of the line */
-    PLANNER_COUNTER_FULL = 18,        /* of plan_tray: its copies would take the tray's counter past 4,294,967,295 */
-    PLANNER_DESTINATION_TOO_SMALL = 16 /* of save_drawing alone: the destination is shorter than the file */
+    PLANNER_DESTINATION_TOO_SMALL = 16 /* of save_drawing, never of plan: the destination is shorter than the file */
 };
 
 /* Sizes to lend. Only optimal pairing needs tables, from 4 odd points on: for a drawing with n of them 2^n + n*n floats and
@@ -90,51 +87,11 @@ struct planner_outcome {
  * doubles are aligned as C aligns them, the four ranges do not overlap, and nobody else reads or writes them before the
  * call returns. The call keeps no pointer, takes no memory from the heap and has no state of its own, so several
  * threads may call it at once, each with its own tables and output. The planner's arrays stand on the stack of the
- * calling thread: 254,536 bytes were the most that any of 203 drawings took (docs/PERFORMANCE.md), and tools/test runs
+ * calling thread: 252,248 bytes were the most that any of 203 drawings took (docs/PERFORMANCE.md), and tools/test runs
  * the examples with 2 MB.
  */
 struct planner_outcome plan(const uint8_t *file, size_t file_length, double *floats, size_t floats_length,
                             uint8_t *bytes, size_t bytes_length, uint8_t *output, size_t output_length);
-
-/* ---- two drawings in one tray */
-
-/* The tray's record, which is handed on from call to call. The caller keeps it, from one evening to the next: the planner has no
- * state of its own. A new one is all zeros. */
-struct planner_tray {
-    uint32_t copies; /* laid in the accepted drawings of all calls, left and right: one for each stroke of each retrace */
-};
-#define PLANNER_NEW_TRAY {0} /* struct planner_tray tray = PLANNER_NEW_TRAY; */
-
-/* The answer of plan_tray. */
-struct planner_tray_outcome {
-    struct planner_outcome left; /* as plan answers */
-    struct planner_outcome right;
-    struct planner_tray tray; /* the record for the next call */
-};
-
-/* Plans a left and a right drawing file with one pair of tables. The tray's board holds 4,000 strokes for both, copies counted: these
- * are the edges of the repaired drawing, one fewer than the points of its line, or none where the line has no points.
- *
- * Left is planned as plan plans it, 18 apart. Right may have 4,000 strokes less those of an accepted left, or all 4,000 where left was
- * refused. In place of 13 it is given 17 where alone it would fit and what is left is too little, with retraces or without. Either is
- * given 18, behind 14, where its copies would take the counter past 4,294,967,295. Left's copies are counted first: right is judged on
- * the counter as left leaves it. A refused drawing takes nothing of the board and raises nothing.
- *
- * Left's answer and output don't depend on the right file. Right's depend on the left file only through whether it was accepted, its
- * strokes and, for 18, its copies.
- *
- * Each output is left as plan leaves it: where its own drawing is planned, the front holds the line and later bytes keep their values;
- * where its own drawing is refused, all of it keeps its values. Every entry of both tables is 0 (+0.0) afterwards, whatever the two
- * answers are and whatever the tables held before. Tables that are enough for each of the two drawings alone are enough for both.
- *
- * The caller sees to what is said above plan, here of six ranges that do not overlap (only the two files may, since they are read and
- * not written), and hands the record that is answered to the next call. The planner's arrays stand on the stack of the calling thread:
- * 254,728 bytes were the most that any of 178 drawings took, each on both sides, and tools/test runs the trays of examples/ with 2 MB.
- */
-struct planner_tray_outcome plan_tray(const uint8_t *left, size_t left_length, const uint8_t *right, size_t right_length,
-                                      double *floats, size_t floats_length, uint8_t *bytes, size_t bytes_length,
-                                      uint8_t *left_output, size_t left_output_length, uint8_t *right_output,
-                                      size_t right_output_length, struct planner_tray tray);
 
 /* ---- saving a drawing */
 

@@ -1,4 +1,4 @@
-//! The planner for Rust: slices in, a `Result` out, no crates. It plans drawing files, alone or two in a tray, and writes them.
+//! The planner for Rust: slices in, a `Result` out, no crates. It plans drawing files, and writes them.
 //!
 //! The archive is made by `rt staticlib planner_c` (target/staticlib/libplanner_c.a, for x86-64 Linux). Take this file
 //! in as a module (`mod planner;`) and link the archive:
@@ -19,8 +19,7 @@
 #![allow(dead_code)]
 
 /// Why a drawing is refused: the first condition that holds, in this order. 16 is of saving alone, and 4 says something else
-/// there; 17 and 18 are of `plan_tray` alone. 10 is given no more: it refused optimal pairing with more than 20 odd points, and such
-/// drawings are planned now.
+/// there. 10 is given no more: it refused optimal pairing with more than 20 odd points, and such drawings are planned now.
 #[derive(Clone, Copy, Debug, PartialEq, Eq)]
 pub enum Refusal {
     /// More than 65,536 bytes.
@@ -49,18 +48,14 @@ pub enum Refusal {
     NoWayBack = 12,
     /// With its retraces the drawing has more than 4,000 strokes.
     TooManySteps = 13,
-    /// Of the right drawing of `plan_tray`: alone it fits, but not into what the left one leaves.
-    BoardTaken = 17,
     /// Less than 6 bytes and 16 for each point of the line.
     OutputTooSmall = 14,
-    /// Of `plan_tray`: its copies would take the tray's counter past 4,294,967,295.
-    CounterFull = 18,
-    /// Of `save_drawing` alone: the destination is shorter than the file.
+    /// Of `save_drawing`, never of `plan`: the destination is shorter than the file.
     DestinationTooSmall = 16,
 }
 
 impl Refusal {
-    const ALL: [Refusal; 17] = [
+    const ALL: [Refusal; 15] = [
         Refusal::FileTooLong,
         Refusal::RecordCutOff,
         Refusal::RecordsOutOfOrder,
@@ -74,19 +69,17 @@ impl Refusal {
         Refusal::TablesTooSmall,
         Refusal::NoWayBack,
         Refusal::TooManySteps,
-        Refusal::BoardTaken,
         Refusal::OutputTooSmall,
-        Refusal::CounterFull,
         Refusal::DestinationTooSmall,
     ];
 
-    /// The refusal with this number, 1 to 18 but for 10.
+    /// The refusal with this number, 1 to 16 but for 10.
     pub fn of_number(number: u32) -> Option<Refusal> {
         Refusal::ALL.into_iter().find(|r| *r as u32 == number)
     }
 }
 
-/// What `plan`, `plan_tray` and `save_drawing` say, in words: 'refused 9: some part can't be reached from the first point'.
+/// What `plan` and `save_drawing` say, in words: 'refused 9: some part can't be reached from the first point'.
 impl std::fmt::Display for Refusal {
     fn fmt(&self, f: &mut std::fmt::Formatter) -> std::fmt::Result {
         let words = match self {
@@ -103,9 +96,7 @@ impl std::fmt::Display for Refusal {
             Refusal::TablesTooSmall => "the tables are too short for the odd points",
             Refusal::NoWayBack => "no way back was found",
             Refusal::TooManySteps => "with its retraces the drawing has more than 4,000 strokes",
-            Refusal::BoardTaken => "what the left drawing leaves of the board is too little for the right one",
             Refusal::OutputTooSmall => "the output is too short for the line",
-            Refusal::CounterFull => "the copies would take the tray's counter past 4,294,967,295",
             Refusal::DestinationTooSmall => "the destination is shorter than the file",
         };
         write!(f, "refused {}: {words}", *self as u32)
@@ -176,7 +167,7 @@ pub const fn output_for(points: usize) -> usize {
 ///
 /// Planned: the front of the output holds the line as a record of kind 4, and later bytes keep their values. Refused:
 /// all of the output keeps its values. In both cases both tables are zero afterwards, whatever they held before.
-/// The planner's arrays stand on the stack of the calling thread: 254,536 bytes were the most that any of 203 drawings
+/// The planner's arrays stand on the stack of the calling thread: 252,248 bytes were the most that any of 203 drawings
 /// took, where a thread has 2 MB by default.
 pub fn plan<'a>(file: &[u8], floats: &mut [f64], bytes: &mut [u8], output: &'a mut [u8]) -> Result<Plan<'a>, Refusal> {
     // SAFETY: each pointer and length are those of one slice, a `&mut` overlaps no other, and the callee keeps no
@@ -193,14 +184,9 @@ pub fn plan<'a>(file: &[u8], floats: &mut [f64], bytes: &mut [u8], output: &'a m
             output.len(),
         )
     };
-    planned(outcome, output)
-}
-
-/// What an outcome says, with the output that it is about.
-fn planned(outcome: exported::Outcome, output: &[u8]) -> Result<Plan<'_>, Refusal> {
     if outcome.refusal != 0 {
         // The contract names no other number.
-        return Err(Refusal::of_number(outcome.refusal).expect("a refusal from 1 to 18"));
+        return Err(Refusal::of_number(outcome.refusal).expect("a refusal from 1 to 16"));
     }
     Ok(Plan {
         retrace: outcome.retrace,
@@ -208,73 +194,6 @@ fn planned(outcome: exported::Outcome, output: &[u8]) -> Result<Plan<'_>, Refusa
         odd_after: outcome.after,
         line: &output[6..output_for(outcome.points)],
     })
-}
-
-// ---- two drawings in one tray
-
-/// The tray's record, which is handed on from call to call. The caller keeps it, from one evening to the next: the planner has no
-/// state of its own. A new one, `Tray::default()`, is all zeros.
-#[repr(C)]
-#[derive(Clone, Copy, Debug, Default, PartialEq, Eq)]
-pub struct Tray {
-    /// Copies laid in the accepted drawings of all calls, left and right: one for each stroke of each retrace.
-    pub copies: u32,
-}
-
-/// What `plan_tray` answers.
-#[must_use]
-#[derive(Clone, Copy, Debug, PartialEq)]
-pub struct TrayPlan<'a> {
-    pub left: Result<Plan<'a>, Refusal>,
-    pub right: Result<Plan<'a>, Refusal>,
-    /// The record for the next call.
-    pub tray: Tray,
-}
-
-/// Plans a left and a right drawing file with one pair of tables. The tray's board holds 4,000 strokes for both, copies counted: these
-/// are the edges of the repaired drawing, one fewer than the points of its line, or none where the line has no points.
-///
-/// Left is planned as `plan` plans it, 18 apart. Right may have 4,000 strokes less those of an accepted left, or all 4,000 where left was
-/// refused. In place of 13 it is given 17 where alone it would fit and what is left is too little, with retraces or without. Either is
-/// given 18, behind 14, where its copies would take the counter past 4,294,967,295. Left's copies are counted first: right is judged on
-/// the counter as left leaves it. A refused drawing takes nothing of the board and raises nothing.
-///
-/// Left's answer and output don't depend on the right file. Right's depend on the left file only through whether it was accepted, its
-/// strokes and, for 18, its copies.
-///
-/// Each output is left as `plan` leaves it, by the answer to its own drawing. Both tables are zero afterwards, whatever the two answers
-/// are and whatever the tables held before; tables that are enough for each of the two drawings alone are enough for both. The
-/// planner's arrays stand on the stack of the calling thread: 254,728 bytes were the most that any of 178 drawings took, each on both
-/// sides, and tools/test runs the trays of examples/ with 2 MB.
-pub fn plan_tray<'a>(
-    left: &[u8],
-    right: &[u8],
-    floats: &mut [f64],
-    bytes: &mut [u8],
-    left_output: &'a mut [u8],
-    right_output: &'a mut [u8],
-    tray: Tray,
-) -> TrayPlan<'a> {
-    // SAFETY: each pointer and length are those of one slice, a `&mut` overlaps no other, and the callee keeps no
-    // pointer. That it stays inside them, and only reads the two files, is proved.
-    let outcome = unsafe {
-        exported::plan_tray(
-            left.as_ptr(),
-            left.len(),
-            right.as_ptr(),
-            right.len(),
-            floats.as_mut_ptr(),
-            floats.len(),
-            bytes.as_mut_ptr(),
-            bytes.len(),
-            left_output.as_mut_ptr(),
-            left_output.len(),
-            right_output.as_mut_ptr(),
-            right_output.len(),
-            tray,
-        )
-    };
-    TrayPlan { left: planned(outcome.left, left_output), right: planned(outcome.right, right_output), tray: outcome.tray }
 }
 
 // ---- saving a drawing
@@ -352,7 +271,7 @@ pub fn save_drawing<'a>(
     };
     if saved.refusal != 0 {
         // The contract names no other number.
-        return Err(Refusal::of_number(saved.refusal).expect("a refusal from 1 to 18"));
+        return Err(Refusal::of_number(saved.refusal).expect("a refusal from 1 to 16"));
     }
     Ok(&destination[..saved.bytes])
 }
@@ -447,8 +366,6 @@ fn number(n: usize) -> u32 {
 }
 
 mod exported {
-    use super::Tray;
-
     #[repr(C)]
     pub struct Outcome {
         pub refusal: u32,
@@ -456,13 +373,6 @@ mod exported {
         pub before: usize,
         pub after: usize,
         pub points: usize,
-    }
-
-    #[repr(C)]
-    pub struct TrayOutcome {
-        pub left: Outcome,
-        pub right: Outcome,
-        pub tray: Tray,
     }
 
     #[repr(C)]
@@ -483,21 +393,6 @@ mod exported {
             output: *mut u8,
             output_length: usize,
         ) -> Outcome;
-        pub fn plan_tray(
-            left: *const u8,
-            left_length: usize,
-            right: *const u8,
-            right_length: usize,
-            floats: *mut f64,
-            floats_length: usize,
-            bytes: *mut u8,
-            bytes_length: usize,
-            left_output: *mut u8,
-            left_output_length: usize,
-            right_output: *mut u8,
-            right_output_length: usize,
-            tray: Tray,
-        ) -> TrayOutcome;
         pub fn save_drawing(
             width: u32,
             height: u32,

@@ -1,14 +1,13 @@
 """A drawing and its plan as SVG: each step of the line once, retraces beside the line, the order by numbers and arrows.
 
 Links that the planner made are told apart from those of the file. For a refused drawing: what was drawn, with what is
-wrong marked. Two drawings in one tray stand beside each other, in one scale.
+wrong marked.
 """
 import collections
 import math
 from xml.sax.saxutils import escape
 
 from . import drawing_file as f
-from . import tray
 from .drawing_text import coordinate_text, point_text
 from .graph import graph
 from .made_links import planned
@@ -17,7 +16,6 @@ from .refusals import CHECKS, pixels, told
 SIDE, LEAST, MARGIN, ROW = 840, (480, 120), 48, 20  # the sheet, in its own units: longer side, least sides, margin, row of text
 GAP = 9                                         # between the furrows of one stroke
 LETTER = 0.57                                   # the mean width of a letter, in parts of its size
-IN_A_TRAY, HEADING = 600, 44                    # of two drawings in a tray: the longest side of both, and the height of 'left' and 'right'
 
 STYLE = """
 .sheet { fill: #fbf6ea } .canvas { fill: #f1e4c8; stroke: #d9c59a }
@@ -29,10 +27,6 @@ STYLE = """
 .start { fill: #2a7f3f } .end { fill: #c1121f }
 text { font-family: sans-serif; fill: #2b2118 }
 .label { paint-order: stroke; stroke: #fbf6ea; stroke-width: 3px; stroke-linejoin: round }
-"""
-
-# what the page of a tray has more
-TRAY_STYLE = """.tray { fill: #f6ecd6; stroke: #a5834b; stroke-width: 3 } .middle { stroke: #d9c59a; stroke-width: 2; stroke-dasharray: 3 7 }
 """
 
 NAMES = {"piece": "drawn", "link": "link", "made": "link made by the planner", "retrace": "retrace"}
@@ -74,9 +68,8 @@ def steps_of(made, points, link="link"):
 class Sheet:
     """Places on the sheet, and the labels that stand there already."""
 
-    def __init__(self, places, settings, scale=None):
-        """places: the points to be shown, in pixels; those past the grid's reach are put at the sheet's edge. scale: the sheet's units
-        to a pixel; without it the longer side decides."""
+    def __init__(self, places, settings):
+        """places: the points to be shown, in pixels; those past the grid's reach are put at the sheet's edge."""
         shown = [p for p in places if all(abs(c) <= f.REACH for c in p)]
         box = [*map(min, zip(*shown)), *map(max, zip(*shown))] if shown else [0.0, 0.0, 0.0, 0.0]
         extent = max(box[2] - box[0], box[3] - box[1])
@@ -88,8 +81,7 @@ class Sheet:
             extent = max(box[2] - box[0], box[3] - box[1])
         elif extent == 0:
             box, extent = [box[0] - 1, box[1] - 1, box[2] + 1, box[3] + 1], 2
-        self.box, self.extent = box, extent
-        self.scale = scale or (SIDE / extent if extent else 1.0)
+        self.box, self.scale = box, SIDE / extent if extent else 1.0
         self.width, self.height = (max(LEAST[i], (box[i + 2] - box[i]) * self.scale) + 2 * MARGIN for i in (0, 1))
         self.size = 13                          # of the letters of labels
         self.taken = []                         # boxes of labels and marks
@@ -209,62 +201,26 @@ def floats(point):
     return tuple(map(f.float_of, point))
 
 
-def sheet_for(drawing, scale=None):
+def sheet_for(drawing):
     places = [floats(p) for line in drawing.lines for p in line] + [floats(p) for l in drawing.links for p in (l.a, l.b)]
-    return Sheet(places, drawing.settings, scale)
+    return Sheet(places, drawing.settings)
 
 
-# What stands on a sheet: the sheet, its elements, and rows of text (or ready elements) below.
-Drawn = collections.namedtuple("Drawn", "sheet parts rows")
-
-
-def svg(wide, high, parts, title, style=STYLE):
-    out = [f'<svg xmlns="http://www.w3.org/2000/svg" width="{number(wide)}" height="{number(high)}" '
-           f'viewBox="0 0 {number(wide)} {number(high)}">', f"<title>{escape(title)}</title>", f"<style>{style}</style>",
-           f'<rect class="sheet" width="{number(wide)}" height="{number(high)}"/>']
-    return "\n".join([part for part in out + parts if part] + ["</svg>"]) + "\n"
-
-
-def on_its_canvas(drawn):
-    sheet = drawn.sheet
+def page(sheet, parts, rows, title):
+    """The whole picture: the sheet, what is on it, rows of text (or ready elements) below."""
+    low = sheet.height
+    high = low + ROW * len(rows) + 16
+    out = [f'<svg xmlns="http://www.w3.org/2000/svg" width="{number(sheet.width)}" height="{number(high)}" '
+           f'viewBox="0 0 {number(sheet.width)} {number(high)}">', f"<title>{escape(title)}</title>", f"<style>{STYLE}</style>",
+           f'<rect class="sheet" width="{number(sheet.width)}" height="{number(high)}"/>']
     if sheet.whole and min(sheet.canvas) > 0:
         (x, y), (to_x, to_y) = sheet.place((0, 0)), sheet.place(sheet.canvas)
-        yield f'<rect class="canvas" x="{number(x)}" y="{number(y)}" width="{number(to_x - x)}" height="{number(to_y - y)}"/>'
-    yield from drawn.parts
-
-
-def below(low, rows):
-    """Rows of text, from this height on."""
+        out.append(f'<rect class="canvas" x="{number(x)}" y="{number(y)}" width="{number(to_x - x)}" height="{number(to_y - y)}"/>')
+    out += parts
     for i, row in enumerate(rows):
         y = low + 6 + ROW * i
-        yield row(y) if callable(row) else text(MARGIN + 6 * (len(row) - len(row.lstrip())), y, row.lstrip())
-
-
-def page(drawn, title):
-    """The whole picture of one drawing."""
-    low = drawn.sheet.height
-    return svg(drawn.sheet.width, low + ROW * len(drawn.rows) + 16, [*on_its_canvas(drawn), *below(low, drawn.rows)], title)
-
-
-def tray_page(halves, rows, title):
-    """The whole picture of a tray: both drawings beside each other, each with its name above it and its rows below, and then
-    the rows of the tray. halves: pairs of a name and what is drawn."""
-    high = max(drawn.sheet.height for _, drawn in halves) + HEADING
-    wide = sum(drawn.sheet.width for _, drawn in halves)
-    edge = MARGIN / 2
-    parts = [f'<rect class="tray" x="{number(edge)}" y="{number(edge)}" width="{number(wide)}" height="{number(high)}" rx="18"/>']
-    x = edge
-    for name, drawn in halves:
-        down = HEADING + (high - HEADING - drawn.sheet.height) / 2  # shorter ones stand in the middle
-        parts += [f'<g class="{name}" transform="translate({number(x)} {number(edge + down)})">', *on_its_canvas(drawn), "</g>",
-                  text(x + drawn.sheet.width / 2, edge + HEADING - 12, name, "heading", "middle", 20),
-                  f'<g transform="translate({number(x)} 0)">', *below(high + 2 * edge, drawn.rows), "</g>"]
-        x += drawn.sheet.width
-        if name != halves[-1][0]:
-            parts.append(f'<path class="middle" d="{route([(x, edge + 12), (x, edge + high - 12)])}"/>')
-    low = high + 2 * edge + ROW * (1 + max(len(drawn.rows) for _, drawn in halves))
-    parts += [f'<g transform="translate({number(edge)} 0)">', *below(low, rows), "</g>"]
-    return svg(wide + 2 * edge, low + ROW * len(rows) + 16, parts, title, STYLE + TRAY_STYLE)
+        out.append(row(y) if callable(row) else text(MARGIN + 6 * (len(row) - len(row.lstrip())), y, row.lstrip()))
+    return "\n".join([part for part in out if part] + ["</svg>"]) + "\n"
 
 
 def legend(kinds):
@@ -293,13 +249,9 @@ def wrapped(rows, wide):
 
 def of_plan(file, answer, title="drawing"):
     """The picture of an accepted drawing: answer is what the planner gave."""
-    return page(plan_drawn(file, answer), f"{title}: the line as it is drawn")
-
-
-def plan_drawn(file, answer, scale=None):
     drawing = planned(f.assembled(f.split(file)[0]))
     made = graph(drawing)
-    sheet = sheet_for(drawing, scale)
+    sheet = sheet_for(drawing)
     place = lambda p: sheet.place((p[0] / f.STEPS, p[1] / f.STEPS))
     link = link_kind(drawing)
     steps = list(steps_of(made, answer.points, link))
@@ -335,7 +287,7 @@ def plan_drawn(file, answer, scale=None):
             f"{len(steps)} steps; {answer.retrace:.6g} pixels retraced; odd points before repair {answer.before}, after {answer.after}"]
     rows += [f"small rings: links that the planner made where ends of lines meet ({len(met)}); they draw nothing"] if met else []
     rows += canvas_row(sheet)
-    return Drawn(sheet, parts + met + [numbers[i] for i in numbered] + marks, rows)
+    return page(sheet, parts + met + [numbers[i] for i in numbered] + marks, rows, f"{title}: the line as it is drawn")
 
 
 def meetings(sheet, drawing, link):
@@ -355,15 +307,11 @@ def canvas_row(sheet):
 
 def of_refusal(file, refusal, title="drawing"):
     """The picture of a refused drawing: what was drawn, and what is wrong with it."""
-    return page(refusal_drawn(file, refusal), f"{title}: refused {refusal.number}")
-
-
-def refusal_drawn(file, refusal, scale=None):
     drawing = f.assembled(f.split(file)[0])
     link = "link"
     if refusal.number not in CHECKS:
         drawing, link = planned(drawing), link_kind(drawing)
-    sheet = sheet_for(drawing, scale)
+    sheet = sheet_for(drawing)
     at = lambda point: sheet.place(floats(point))
     wrong_strokes = {frozenset(stroke) for finding in refusal.findings for stroke in finding.strokes}
     parts, labels = [], []
@@ -389,7 +337,7 @@ def refusal_drawn(file, refusal, scale=None):
     if len(drawing.lines) <= 40:
         labels += [label(sheet, at(line[0]), f"line {i}") for i, line in enumerate(drawing.lines) if line]
     rows = list(wrapped(told(refusal), int((sheet.width - 2 * MARGIN) / 7))) + canvas_row(sheet)
-    return Drawn(sheet, parts + labels, rows)
+    return page(sheet, parts + labels, rows, f"{title}: refused {refusal.number}")
 
 
 def value_text(bits):
@@ -407,12 +355,3 @@ def pieces_or_segments(drawing, refusal):
     if refusal.number not in CHECKS:
         return [(pixels(p), pixels(q), "piece") for p, q, *_ in graph(drawing).pieces]
     return [(p, q, "piece") for line in drawing.lines for p, q in zip(line, line[1:]) if p != q]
-
-
-def of_tray(sides, copies, left="left", right="right"):
-    """The picture of two drawings of these names in one tray, whose counter is so high afterwards."""
-    extent = max(sheet_for(f.assembled(f.split(side.file)[0])).extent for side in sides)
-    scale = IN_A_TRAY / extent if extent else None
-    halves = [(side.name, refusal_drawn(side.file, tray.refusal_of(side), scale) if side.answer.refusal else plan_drawn(side.file, side.answer, scale))
-              for side in sides]
-    return tray_page(halves, list(tray.told(sides, copies)), f"{left} and {right} in one tray")

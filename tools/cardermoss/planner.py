@@ -1,10 +1,9 @@
-"""The programs `plan`, `plan_tray` and `save`: where they are, and their answers as values."""
+"""The programs `plan` and `save`: where they are, and their answers as values."""
 import collections
 import os
 import re
 import struct
 import subprocess
-import tempfile
 
 from . import refusals
 from .drawing_text import Text
@@ -14,38 +13,22 @@ ROOT = os.path.dirname(os.path.dirname(os.path.dirname(os.path.abspath(__file__)
 # points are pairs of whole grid steps; refusal is 0 for a planned drawing
 Answer = collections.namedtuple("Answer", "refusal retrace before after points")
 
-# both answers for a tray, and its counter of copies behind them
-TrayAnswer = collections.namedtuple("TrayAnswer", "left right copies")
-
 
 def program(given=None, name="plan"):
-    """The path of `plan`: what was given, or PLAN in the environment, or where `rt check plan` puts it. So for `plan_tray` and
-    `save`."""
+    """The path of `plan`: what was given, or PLAN in the environment, or where `rt check plan` puts it. So for `save`."""
     return given or os.environ.get(name.upper()) or os.path.join(ROOT, "target", "bin", name)
 
 
-def parsed(text, numbers=refusals.CONDITIONS):
-    """What `plan` prints, as values; it refuses with these numbers."""
+def parsed(text):
+    """What `plan` prints, as values."""
     rows = text.splitlines()
     head = rows[0].split(" ")
-    if head[0] == "refused" and int(head[1]) in numbers and len(rows) == 1:
+    if head[0] == "refused" and int(head[1]) in refusals.CONDITIONS:
         return Answer(int(head[1]), 0.0, 0, 0, [])
     points = [tuple(map(int, row.split(" "))) for row in rows[1:]]
     if head[0] != "ok" or len(points) != int(head[4]):
         raise ValueError("this is not what `plan` prints")
     return Answer(0, struct.unpack(">d", bytes.fromhex(head[1]))[0], int(head[2]), int(head[3]), points)
-
-
-def parsed_tray(text):
-    """What `plan_tray` prints, as values. The left drawing is never given 17."""
-    *rows, last = text.splitlines()
-    head = rows[0].split(" ")
-    behind = 1 + (int(head[4]) if head[0] == "ok" else 0)  # where the right answer begins
-    counter = re.fullmatch("tray (0|[1-9][0-9]{0,9})", last)
-    if not counter or int(counter[1]) > refusals.MOST_COUNTED:
-        raise ValueError("this is not what `plan_tray` prints")
-    return TrayAnswer(parsed("\n".join(rows[:behind]), [n for n in refusals.BY_THE_TRAY if n != 17]),
-                      parsed("\n".join(rows[behind:]), refusals.BY_THE_TRAY), int(counter[1]))
 
 
 class Wrong(Exception):
@@ -57,19 +40,6 @@ def printed(file, path):
     if not os.access(path, os.X_OK):
         raise Wrong(f"{path} is not built: `rt check plan` builds it")
     run = subprocess.run([path], input=file, stdout=subprocess.PIPE, check=True)
-    return run.stdout.decode("ascii")
-
-
-def printed_tray(left, right, copies, path):
-    """What the program `plan_tray` at this path prints for two drawing files and a counter. It reads files by their names."""
-    if not os.access(path, os.X_OK):
-        raise Wrong(f"{path} is not built: `rt check plan_tray` builds it")
-    with tempfile.TemporaryDirectory() as folder:
-        names = [os.path.join(folder, name) for name in ("left", "right")]
-        for name, file in zip(names, (left, right)):
-            with open(name, "wb") as target:
-                target.write(file)
-        run = subprocess.run([path, *names, str(copies)], stdout=subprocess.PIPE, check=True)
     return run.stdout.decode("ascii")
 
 

@@ -1,4 +1,4 @@
-"""What tools/plan, tools/tray and tools/save share: a proved program that is built where that has to be done, and run on drawings."""
+"""What tools/plan and tools/save share: a proved program that is built where that has to be done, and run on a drawing."""
 import os
 import shlex
 import signal
@@ -6,7 +6,7 @@ import subprocess
 import sys
 import time
 
-from . import planner
+from . import planner, refusals
 
 CALLED = os.path.join(os.path.dirname(sys.argv[0]), "")  # so that a command that is named can be pasted
 
@@ -20,18 +20,16 @@ def newest_source():
 
 
 class Program:
-    """The program `name` (what is said of it: `called`, the time that proving takes: `first` and `again`), for the command tools/NAME,
-    or for that of another name."""
+    """The program `name` (what is said of it: `called`, the time that proving takes: `first` and `again`), for the command tools/NAME."""
 
-    def __init__(self, name, called, first, again, command=None):
+    def __init__(self, name, called, first, again):
         self.name, self.called, self.first, self.again = name, called, first, again
-        self.command = command or name
 
     def say(self, words):
-        print(f"tools/{self.command}: {words}", file=sys.stderr, flush=True)
+        print(f"tools/{self.name}: {words}", file=sys.stderr, flush=True)
 
     def option(self, parser):
-        parser.add_argument(f"--{self.name.replace('_', '-')}", metavar="PATH", help=f"the program `{self.name}`, which is then not built")
+        parser.add_argument(f"--{self.name}", metavar="PATH", help=f"the program `{self.name}`, which is then not built")
 
     def path(self, given=None):
         """What was given, or the variable of its name in the environment, or where `rt check` puts it."""
@@ -76,11 +74,14 @@ class Program:
         except OSError as wrong:
             raise planner.Wrong(f"standard input: {wrong.strerror}") from None
 
-    def refused(self, refusal, *named, which=""):
-        """Says a refusal in one line, with the words for tools/explain that name what was refused."""
+    def refused(self, file, number, path):
+        """Says a refusal in one line."""
+        refusal = refusals.first_refusal(file)
+        if refusal is None or refusal.number != number:
+            refusal = refusals.by_the_planner(file, number)
         words = [refusal.condition, *(finding.words for finding in refusal.findings[:1])]
-        explain = [shlex.quote(CALLED + "explain"), *("FILE" if word == "-" else shlex.quote(word) for word in named)]
-        self.say(f"{which}refused {refusal.number}: {': '.join(words)} ({' '.join(explain)} says more)")
+        named = "FILE" if path == "-" else shlex.quote(path)
+        self.say(f"refused {number}: {': '.join(words)} ({shlex.quote(CALLED + 'explain')} {named} says more)")
 
     def put(self, data):
         """Writes bytes to standard output; whoever reads them may stop reading. Python's own stream is passed by, since what it

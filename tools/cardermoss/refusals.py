@@ -1,8 +1,7 @@
 """Why a drawing is refused, in words: conditions 1 to 9, 11 and 15 of docs/DRAWING-FILE.md, from the file alone.
 
 12 to 14 depend on the planner's own work: for these the planner is asked, and `by_the_planner` has the words. 16 is the
-writer's alone, and no file is refused with it; 17 and 18 are given to a drawing in a tray alone, and `tray.py` finds what there
-is to say of them. 10 is given no more.
+writer's alone, and no file is refused with it. 10 is given no more.
 """
 import collections
 import math
@@ -15,7 +14,6 @@ from .graph import graph
 MOST_BYTES, MOST_SIDE, MOST_PAIRING, MOST_FLAGS = 65536, 8192, 1, 7
 MOST_LINES, MOST_POINTS, MOST_LINKS = 256, 1024, 255
 MOST_EDGES = 4000
-MOST_COUNTED = 4294967295  # copies in the counter of a tray
 
 KINDS = {f.SETTINGS: "the settings", f.LINE: "a line", f.LINK: "a link"}
 
@@ -79,21 +77,9 @@ OF_THE_WRITER = {
          f"The program that saves must lend more bytes: {MOST_FILE:,} are always enough. A plan never gives this number."),
 }
 
-# What the planner says of a drawing in a tray, in its order, and what two of these numbers say.
-BY_THE_TRAY = [1, 2, 3, 4, 5, 6, 15, 7, 8, 9, 11, 12, 13, 17, 14, 18]
-OF_THE_TRAY = {
-    17: ("what the left drawing leaves of the board is too little for the right one",
-         f"The board of a tray holds {MOST_EDGES:,} strokes for both drawings, copies counted: a stroke that is gone over again counts each time. "
-         "Alone this drawing fits on it. Beside the left one, use fewer points in either of the two, join loose ends so that less is gone "
-         "over again, or choose another drawing for one side."),
-    18: (f"the copies would take the tray's counter past {MOST_COUNTED:,}",
-         "Each stroke that is gone over again is a copy, and the tray's record counts those of all its drawings. Choose a drawing that goes over "
-         "less again: one that goes over nothing again is never given this number. Or have whoever keeps the record begin a new one with 0."),
-}
-
 
 def named(number, findings=()):
-    condition, remedy = {**CONDITIONS, **OF_THE_TRAY}[number]
+    condition, remedy = CONDITIONS[number]
     return Refusal(number, condition, list(findings), remedy)
 
 
@@ -102,14 +88,8 @@ def by_the_planner(file, number):
     return named(number, odd_points(graph(f.assembled(f.split(file)[0]))) if number == 13 else ())
 
 
-def of_answer(file, number):
-    """The refusal that the program `plan` gave a file."""
-    refusal = first_refusal(file)
-    return refusal if refusal and refusal.number == number else by_the_planner(file, number)
-
-
-def count(number, word, words=None):
-    return f"{number:,} {word if number == 1 else words or word + 's'}"
+def count(number, word):
+    return f"{number:,} {word}" + ("" if number == 1 else "s")
 
 
 def first_refusal(file, f64=f.PLAN_F64, byte=f.PLAN_BYTES):
@@ -366,15 +346,14 @@ def odd_points(made):
 
 
 def of_number(number):
-    """What a number says, as rows of text: of a file, and where the writer means something else by it, of saving; of a drawing in a
-    tray; or that it is given no more. None: there is no such number."""
+    """What a number says, as rows of text: of a file, and where the writer means something else by it, of saving; or that it is
+    given no more. None: there is no such number."""
     rows = told(named(number)) if number in CONDITIONS else []
     if number in ENDED:
         rows.append(f"{number} is given no more: {ENDED[number]}")
-    for conditions, whose in ((OF_THE_WRITER, "that was to be saved"), (OF_THE_TRAY, "in a tray")):
-        if number in conditions:
-            condition, remedy = conditions[number]
-            rows += [f"refused {number}, of a drawing {whose}: {condition}", "What to do: " + remedy]
+    if number in OF_THE_WRITER:
+        condition, remedy = OF_THE_WRITER[number]
+        rows += [f"refused {number}, of a drawing that was to be saved: {condition}", "What to do: " + remedy]
     return rows or None
 
 

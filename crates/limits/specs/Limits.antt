@@ -62,13 +62,9 @@ most_file = file_size most_lines most_points most_links
 abbrev pub most_odd : ℕ
 most_odd = 20
 
--- check 13; and what the board of a tray holds, for both drawings (check 17)
+-- check 13
 abbrev pub most_edges : ℕ
 most_edges = 4000
-
--- check 18: what the tray's counter of copies holds, a u32
-abbrev pub most_counted : ℕ
-most_counted = 4294967295
 
 -- ---- sizes that follow
 
@@ -141,10 +137,3 @@ refused_own_links = 15
 -- of the writer
 abbrev pub refused_destination : ℕ
 refused_destination = 16
-
--- of a tray
-abbrev pub refused_remainder : ℕ
-refused_remainder = 17
-
-abbrev pub refused_counter : ℕ
-refused_counter = 18

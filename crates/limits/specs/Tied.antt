@@ -28,7 +28,6 @@ limits_are = record {
   file = named.most_file;
   odd = named.most_odd;
   edges = named.most_edges;
-  counted = named.most_counted;
   splits = named.most_splits;
   nodes = named.most_nodes;
   pairs = named.most_pairs;
@@ -54,6 +53,4 @@ refusals_are = record {
   output = named.refused_output;
   own_links = named.refused_own_links;
   destination = named.refused_destination;
-  remainder = named.refused_remainder;
-  counter = named.refused_counter;
 }

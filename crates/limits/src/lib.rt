@@ -48,11 +48,8 @@ pub const MOST_FILE: usize = HEAD_SIZE
 // Check 11: the odd nodes of which Optimal tries all pairings.
 pub const MOST_ODD: usize = 20;
 
-// Check 13: the edges of a repaired graph; and what the board of a tray holds, for both drawings (check 17).
+// Check 13: the edges of a repaired graph.
 pub const MOST_EDGES: usize = 4000;
-
-// Check 18: what the tray's counter of copies holds.
-pub const MOST_COUNTED: u32 = 4_294_967_295;
 
 // Two split points for each link, and a node for each of them and for each point.
 pub const MOST_SPLITS: usize = 2 * MOST_LINKS;
@@ -104,12 +101,6 @@ pub const REFUSED_OWN_LINKS: u8 = 15;
 // The writer's: a destination that is too short for the file.
 pub const REFUSED_DESTINATION: u8 = 16;
 
-// Of a tray: what the left drawing leaves of the board is too little for the right one; among the checks it stands behind 13.
-pub const REFUSED_REMAINDER: u8 = 17;
-
-// Of a tray: the counter would pass what it holds; it stands behind 14.
-pub const REFUSED_COUNTER: u8 = 18;
-
 #[derive(Drop)]
 pub struct Layout {
     pub settings: u16,
@@ -150,7 +141,6 @@ pub struct Limits {
     pub file: usize,
     pub odd: usize,
     pub edges: usize,
-    pub counted: u32,
     pub splits: usize,
     pub nodes: usize,
     pub pairs: usize,
@@ -174,7 +164,6 @@ pub fn limits_tied() -> Limits
         file: MOST_FILE,
         odd: MOST_ODD,
         edges: MOST_EDGES,
-        counted: MOST_COUNTED,
         splits: MOST_SPLITS,
         nodes: MOST_NODES,
         pairs: MOST_PAIRS,
@@ -201,8 +190,6 @@ pub struct Refusals {
     pub output: u8,
     pub own_links: u8,
     pub destination: u8,
-    pub remainder: u8,
-    pub counter: u8,
 }
 
 // And so are its numbers of refusals.
@@ -225,7 +212,5 @@ pub fn refusals_tied() -> Refusals
         output: REFUSED_OUTPUT,
         own_links: REFUSED_OWN_LINKS,
         destination: REFUSED_DESTINATION,
-        remainder: REFUSED_REMAINDER,
-        counter: REFUSED_COUNTER,
     }
 }

@@ -3,15 +3,9 @@ use Rattle.std.specs.Float.{binary64}
 use Rattle.std.specs.Float.Ieee.{of_bits}
 use Rattle.repair_spec.specs.Distance.{zero_length}
 use Rattle.planner_spec.specs.Plan.{Answer, refusal, planned}
-use Rattle.tray_spec.specs.Tray.{TrayAfter}
 use Rattle.planner_c.specs.declared.Outcome.{Outcome}
-use Rattle.planner_c.specs.declared.TrayOutcome.{TrayOutcome}
 
 -- a refusal has its number and zeros; a plan has the number 0
 abbrev pub exported : Answer → Outcome
 exported (refusal k) = record { refusal = k; retrace = zero_length; before = 0; after = 0; points = 0 }
 exported (planned p) = record { refusal = 0; retrace = of_bits binary64 p.retrace; before = p.before; after = p.after; points = p.points }
-
--- both answers of a tray, and its record
-abbrev pub tray_exported : TrayAfter → TrayOutcome
-tray_exported a = record { left = exported a.left; right = exported a.right; tray = record { copies = a.tray.copies } }

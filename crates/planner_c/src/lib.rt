@@ -1,16 +1,13 @@
-// The planner for programs in other languages; `save` is the writer for them, `tray` the planner for two balls in one tray.
+// The planner for programs in other languages; `save` is the writer for them.
 pub mod save;
-pub mod tray;
 
 ghost use Rattle.std.specs.Prelude.{◌≡◌};
 ghost use Rattle.planner_spec.specs.Plan.{called, drawing_in};
 ghost use Rattle.planner_spec.specs.Demand3.{Demand3};
 ghost use Rattle.planner.specs.Answer.{call};
-ghost use Rattle.planner_graph.specs.Answer.{answer_of, RetraceNonneg};
 ghost use Rattle.planner_c.specs.Exported.{exported};
 
 use planner_graph::Answer;
-use planner_tray::Tray;
 
 // The number of a refusal and zeros; or 0 with the retrace's length, the odd nodes before and after, and the
 // points of the line.
@@ -24,45 +21,12 @@ pub struct Outcome {
     pub points: usize,
 }
 
-// What is answered to each drawing of a tray, and the tray's record for the next call.
-#[repr(C)]
-#[derive(Drop)]
-pub struct TrayOutcome {
-    pub left: Outcome,
-    pub right: Outcome,
-    pub tray: Tray,
-}
-
 // The number of a refusal and 0; or 0 and how many bytes the file has.
 #[repr(C)]
 #[derive(Drop)]
 pub struct Saved {
     pub refusal: u32,
     pub bytes: usize,
-}
-
-// The answer to one drawing as a struct. That the retrace is no NaN is asked, since the struct has the f64 whose bits the definition
-// gives.
-pub fn outcome_of(answer: Answer) -> Outcome
-    requires { RetraceNonneg answer }
-    ensures { result ≡ exported (answer_of answer) }
-{
-    match answer {
-        Answer::Refused(number) => Outcome {
-            refusal: number as u32,
-            retrace: 0.0,
-            before: 0,
-            after: 0,
-            points: 0,
-        },
-        Answer::Planned(retrace, before, after, points) => Outcome {
-            refusal: 0,
-            retrace,
-            before,
-            after,
-            points,
-        },
-    }
 }
 
 // Plans a drawing file, whatever bytes it holds: `plan_file` of crates/planner, with its answer, output and tables, and
@@ -80,5 +44,20 @@ pub extern "C" fn plan(
     ensures demand3 { result.refusal ≡ 0 → Demand3 (drawing_in file.now) output.old output.new }
 {
     let answer = planner::plan_file(file, floats, bytes, output);
-    outcome_of(answer)
+    match answer {
+        Answer::Refused(number) => Outcome {
+            refusal: number as u32,
+            retrace: 0.0,
+            before: 0,
+            after: 0,
+            points: 0,
+        },
+        Answer::Planned(retrace, before, after, points) => Outcome {
+            refusal: 0,
+            retrace,
+            before,
+            after,
+            points,
+        },
+    }
 }

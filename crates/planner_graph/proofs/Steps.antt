@@ -2,20 +2,18 @@
 use mathlib.Core.Path.{◌≡◌, refl, sym, ap, subst, ◌∙◌}
 use mathlib.Core.List.{List, [], ◌∷◌}
 use mathlib.Core.Bool.{Bool, true, false}
-use Prim.Native.Nat.{ℕ, ◌+◌, ◌*◌, ◌≤◌, ◌<◌}
+use Prim.Native.Nat.{ℕ, ◌+◌, ◌*◌}
 use native.Mathlib.Omega.{arith}
 use lib.ListN.{length}
 use lib.Dec.{ltb}
-use borrow.Author.Tests.{lt-ltb, le-ltb}
 use lib.Ieee.{Float, binary64, to_bits}
-use Rattle.limits.specs.Limits.{most_odd, most_edges, most_counted, refused_tables, refused_edges, refused_remainder, refused_output, refused_counter}
+use Rattle.limits.specs.Limits.{most_odd, most_edges, refused_tables, refused_edges, refused_output}
 use Rattle.sums.specs.Key.{Nonneg}
 use Rattle.drawing_spec.specs.Drawing.{Point, Settings}
 use Rattle.drawing_spec.specs.Refusal.{condition, refused, accepted, verdict}
 use Rattle.graph_spec.specs.Graph.{Edge, Graph}
 use Rattle.graph_spec.specs.Odd.{odd_nodes}
 use Rattle.graph_spec.specs.Reach.{all_reached}
-use Rattle.graph_spec.specs.Ways.{Inside}
 use Rattle.graph_spec.specs.Weights.{Searchable}
 use Rattle.repair_spec.specs.Repair.{Repair, Repairing, stopped, repaired, table_short}
 use Rattle.repair_pairs.specs.Refusal.{table_conditions}
@@ -25,10 +23,7 @@ use Rattle.walk_spec.specs.Line.{line_of}
 use Rattle.planner_spec.specs.LineRecord.{line_record}
 use Rattle.drawing_spec.specs.Bytes.{in_front}
 use Rattle.planner_spec.specs.Plan as plan
-use Rattle.planner_spec.specs.Words.{copies_along}
-use Rattle.ball_spec.specs.Ball as balls
-use Rattle.ball_spec.proofs.Ball.{ball_tables, ball_stopped, ball_repaired_lem, repaired_behind, behind, Taken, ShortOutput, Full}
-use Rattle.ball_spec.proofs.Counts.{copies_added}
+use Rattle.planner_spec.proofs.Plan.{plan_tables, plan_stopped, plan_output, plan_drawn}
 use Rattle.planner_graph.proofs.Sum.{repair_summed}
 
 module _ (g : Graph) (s : Settings) (lent : plan.Lent) where
@@ -104,8 +99,8 @@ module _ (g : Graph) (s : Settings) (lent : plan.Lent) where
       go true q = absurd (let z : ◌≡◌ {A = ℕ} 1 0 = ap one (e ∙ parity_by true q) in omega arith)
       go false q = repaired_so q (plan.repair_of g s) refl (e ∙ parity_by false q)
 
-  module _ (b : balls.Board) (reached : all_reached (length g.nodes) g.edges ≡ true) where
-    pub refused_planned : (k : ℕ) → refusal k ≡ parity → balls.ball_graph g s lent b ≡ balls.refuse_ball k lent
+  module _ (reached : all_reached (length g.nodes) g.edges ≡ true) where
+    pub refused_planned : (k : ℕ) → refusal k ≡ parity → plan.plan_graph g s lent ≡ plan.refuse k lent
     unfolding verdict plan.odd_count
     refused_planned k e = go (table_short most_odd s (odd g.edges) lent.floats lent.bytes) refl
       where
@@ -117,70 +112,37 @@ module _ (g : Graph) (s : Settings) (lent : plan.Lent) where
         one (refusal j) = 0
         one (values y b a fs) = 1
 
-        refuse_by : (j : ℕ) → j ≡ k → balls.ball_graph g s lent b ≡ balls.refuse_ball j lent → balls.ball_graph g s lent b ≡ balls.refuse_ball k lent
-        refuse_by j i h = h ∙ ap (λ (m : ℕ). balls.refuse_ball m lent) i
+        refuse_by : (j : ℕ) → j ≡ k → plan.plan_graph g s lent ≡ plan.refuse j lent → plan.plan_graph g s lent ≡ plan.refuse k lent
+        refuse_by j i h = h ∙ ap (λ (m : ℕ). plan.refuse m lent) i
 
-        stopped_so : Short false → (r : Repairing) → plan.repair_of g s ≡ r → refusal k ≡ value_of (length g.nodes) (odd g.edges) (outcome r) → balls.ball_graph g s lent b ≡ balls.refuse_ball k lent
-        stopped_so q (stopped j) i h = refuse_by j (sym (ap number h)) (ball_stopped g s lent b reached q j i)
+        stopped_so : Short false → (r : Repairing) → plan.repair_of g s ≡ r → refusal k ≡ value_of (length g.nodes) (odd g.edges) (outcome r) → plan.plan_graph g s lent ≡ plan.refuse k lent
+        stopped_so q (stopped j) i h = refuse_by j (sym (ap number h)) (plan_stopped g s lent reached q j i)
         stopped_so q (repaired r) i h = absurd (let z : ◌≡◌ {A = ℕ} 0 1 = ap one h in omega arith)
 
-        go : (c : Bool) → Short c → balls.ball_graph g s lent b ≡ balls.refuse_ball k lent
-        go true q = refuse_by refused_tables (sym (ap number (e ∙ parity_by true q))) (ball_tables g s lent b reached q)
+        go : (c : Bool) → Short c → plan.plan_graph g s lent ≡ plan.refuse k lent
+        go true q = refuse_by refused_tables (sym (ap number (e ∙ parity_by true q))) (plan_tables g s lent reached q)
         go false q = stopped_so q (plan.repair_of g s) refl (e ∙ parity_by false q)
 
-    -- what was repaired, with so many copies, judged by 17, 14 and 18
-    module _ (x : Float) (before after : ℕ) (es : List Edge) (M : Mended x before after es) (inside : Inside (length g.nodes) g.edges) (copies : ℕ) (added : length es ≡ length g.edges + copies) where
-      copies_are : copies_along M.repair.retraces ≡ copies
-      copies_are = omega (arith, copies_added g s inside M.repair M.repairs, ap length M.edges_are)
+    module _ (x : Float) (before after : ℕ) (es : List Edge) (M : Mended x before after es) (line : List Point) (line_is : line ≡ line_of s g.nodes es) where
+      line_for : plan.line_for g s M.repair ≡ line
+      unfolding plan.line_for
+      line_for = ap (line_of s g.nodes) M.edges_are ∙ sym line_is
 
-      judged : {i j k : Bool} → Taken g s lent b M.repair i → ShortOutput g s lent b M.repair j → Full g s lent b M.repair k → balls.ball_graph g s lent b ≡ behind g s lent b M.repair i j k
+      pub short_planned : ltb (length lent.output) (6 + 16 * length line) ≡ true → plan.plan_graph g s lent ≡ plan.refuse refused_output lent
       unfolding plan.odd_count
-      judged t o f = ball_repaired_lem g s lent b reached M.long M.repair M.repairs ∙ repaired_behind g s lent b M.repair t o f
+      short_planned h =
+          plan_output g s lent reached M.long M.repair M.repairs (ap (λ (l : List Point). ltb (length lent.output) (6 + 16 * length l)) line_for ∙ h)
 
-      pub remainder_planned : b.edges < length es → balls.ball_graph g s lent b ≡ balls.refuse_ball refused_remainder lent
-      unfolding verdict
-      remainder_planned h = judged (lt-ltb b.edges (length M.repair.edges) (omega (arith, ap length M.edges_are))) refl refl
-
-      module _ (fits : length es ≤ b.edges) (line : List Point) (line_is : line ≡ line_of s g.nodes es) where
-        fit : Taken g s lent b M.repair false
-        fit = le-ltb b.edges (length M.repair.edges) (omega (arith, ap length M.edges_are))
-
-        line_for : plan.line_for g s M.repair ≡ line
-        unfolding plan.line_for
-        line_for = ap (line_of s g.nodes) M.edges_are ∙ sym line_is
-
-        room_is : {t : Bool} → ltb (length lent.output) (6 + 16 * length line) ≡ t → ShortOutput g s lent b M.repair t
-        room_is h = ap (λ (l : List Point). ltb (length lent.output) (6 + 16 * length l)) line_for ∙ h
-
-        pub short_planned : ltb (length lent.output) (6 + 16 * length line) ≡ true → balls.ball_graph g s lent b ≡ balls.refuse_ball refused_output lent
-        unfolding verdict
-        short_planned h = judged fit (room_is h) refl
-
-        pub full_planned : ltb (length lent.output) (6 + 16 * length line) ≡ false → most_counted < b.counter + copies → balls.ball_graph g s lent b ≡ balls.refuse_ball refused_counter lent
-        unfolding verdict
-        full_planned h k = judged fit (room_is h) (lt-ltb most_counted (b.counter + copies_along M.repair.retraces) (omega (arith, copies_are)))
-
-        pub line_planned : ltb (length lent.output) (6 + 16 * length line) ≡ false → b.counter + copies ≤ most_counted
-            → balls.ball_graph g s lent b ≡ record {
-              outcome = record { answer = plan.planned (record { retrace = to_bits binary64 x; before = before; after = after; points = length line }); output = in_front (line_record line) lent.output };
-              edges = length es;
-              copies = copies;
-            }
-        unfolding verdict plan.odd_count plan.answer_for
-        line_planned h k =
-            judged fit (room_is h) (le-ltb most_counted (b.counter + copies_along M.repair.retraces) (omega (arith, copies_are)))
-            ∙ (λ i. record {
-              outcome = record {
-                answer = plan.planned (record { retrace = to_bits binary64 (M.sum_is i); before = M.before_is i; after = M.after_is i; points = length (line_for i) });
-                output = in_front (line_record (line_for i)) lent.output;
-              };
-              edges = length (M.edges_are i);
-              copies = copies_are i;
-            })
-
-  -- repair only adds edges
-  pub edges_added : (x : Float) (before after : ℕ) (es : List Edge) → Mended x before after es → Inside (length g.nodes) g.edges → length g.edges ≤ length es
-  edges_added x before after es M inside = omega (arith, copies_added g s inside M.repair M.repairs, ap length M.edges_are)
+      pub line_planned : ltb (length lent.output) (6 + 16 * length line) ≡ false
+          → plan.plan_graph g s lent ≡ record { answer = plan.planned (record { retrace = to_bits binary64 x; before = before; after = after; points = length line }); output = in_front (line_record line) lent.output }
+      unfolding plan.odd_count plan.answer_for
+      line_planned h =
+          let open_room = ap (λ (l : List Point). ltb (length lent.output) (6 + 16 * length l)) line_for ∙ h in
+          plan_drawn g s lent reached M.long M.repair M.repairs open_room
+          ∙ (λ i. record {
+            answer = plan.planned (record { retrace = to_bits binary64 (M.sum_is i); before = M.before_is i; after = M.after_is i; points = length (line_for i) });
+            output = in_front (line_record (line_for i)) lent.output;
+          })
 
   pub mended_number : (x : Float) (before after : ℕ) (es : List Edge) → Mended x before after es → Searchable (length g.nodes) g.edges → Nonneg binary64 x
   unfolding plan.repair_of

@@ -8,10 +8,8 @@ use Rattle.file_records.specs.declared.Settings.{Settings}
 use Rattle.graph_adjacency.specs.Lists.{Adjacency}
 use Rattle.graph_arrays.specs.Arrays.{NodesHeld, EdgesHeld}
 use Rattle.planner_spec.specs.Plan as plan
-use Rattle.ball_spec.specs.Ball as balls
 use Rattle.planner_graph.specs.declared.Answer.{Answer}
 use Rattle.planner_graph.specs.declared.Answer.TheVariants.{Refused, Planned}
-use Rattle.planner_graph.specs.declared.Ball.{Ball}
 
 -- document 01's number and values for each case; the retrace by its bits
 abbrev pub answer_of : Answer → plan.Answer
@@ -22,14 +20,6 @@ answer_of (Planned x before after points) = plan.planned (record { retrace = to_
 abbrev pub outcome_of : Answer → List ℕ → plan.Outcome
 outcome_of r output = record { answer = answer_of r; output = output }
 
--- a refusal, which takes nothing
-abbrev pub refused_ball : ℕ → Ball
-refused_ball k = record { answer = Refused k; edges = 0; copies = 0 }
-
--- and with what the drawing takes
-abbrev pub ball_of : Ball → List ℕ → balls.Ball
-ball_of r output = record { outcome = outcome_of r.answer output; edges = r.edges; copies = r.copies }
-
 -- the length of the retraces is no NaN and not negative, so that its bits can be taken
 abbrev pub RetraceNonneg : Answer → Type 0
 RetraceNonneg (Refused k) = Unit
@@ -38,10 +28,6 @@ RetraceNonneg (Planned x before after points) = Nonneg binary64 x
 -- what is lent: the lengths of the two tables, and the output's bytes
 abbrev pub lent : List Float → List ℕ → List ℕ → plan.Lent
 lent floats bytes output = record { floats = length floats; bytes = length bytes; output = output }
-
--- what there is for the drawing: edges left on the board, and where the counter stands
-abbrev pub board : ℕ → ℕ → balls.Board
-board free counter = record { edges = free; counter = counter }
 
 -- The arrays hold a graph of n nodes and m edges, and the canvas is none that check 5 refuses.
 pub record Plannable (settings : Settings) (n m : ℕ) (xs ys : List ℕ) (a : Adjacency) : Type 0 where

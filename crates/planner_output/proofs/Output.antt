@@ -37,21 +37,18 @@ module _ (n : ℕ) (xs ys output₀ line : List ℕ) (count : ℕ) (points : Lis
     test_is : b ≡ short output₀ (length points)
     test_is = sym test ∙ ap (short output₀) (sym points_count)
 
-    emitted_is : (full : Bool) → emitted_by b full count ≡ emitted_of output₀ full points
-    emitted_is full = ap₂ (λ (t : Bool) (n : ℕ). emitted_by t full n) test_is (sym points_count)
+    emitted_is : emitted_by b count ≡ emitted_of output₀ points
+    emitted_is = ap₂ emitted_by test_is (sym points_count)
 
-    output_is : (full : Bool) → output_by b full output₀ points ≡ output_with output₀ full points
-    output_is full = ap (λ (t : Bool). output_by t full output₀ points) test_is
+    output_is : output_by b output₀ points ≡ output_with output₀ points
+    output_is = ap (λ (t : Bool). output_by t output₀ points) test_is
 
-  pub emitted_short : (full : Bool) → length output₀ < 6 + 16 * count → (variant.Short ≡ emitted_of output₀ full points) × (output₀ ≡ output_with output₀ full points)
-  emitted_short full h = (emitted_is true (lt-ltb _ _ h) full, output_is true (lt-ltb _ _ h) full)
+  pub emitted_short : length output₀ < 6 + 16 * count → (variant.Short ≡ emitted_of output₀ points) × (output₀ ≡ output_with output₀ points)
+  emitted_short h = (emitted_is true (lt-ltb _ _ h), output_is true (lt-ltb _ _ h))
 
-  pub emitted_full : (full : Bool) → full ≡ true → 6 + 16 * count ≤ length output₀ → (variant.Full ≡ emitted_of output₀ full points) × (output₀ ≡ output_with output₀ full points)
-  emitted_full full e h = rw e (emitted_is false (le-ltb _ _ h) true, output_is false (le-ltb _ _ h) true)
-
-  pub emitted_whole : (full : Bool) (output : List ℕ) → full ≡ false → 6 + 16 * count ≤ length output₀ → output ≡ in_front (line_record (points_in xs ys line count)) output₀
-      → (variant.Points count ≡ emitted_of output₀ full points) × (output ≡ output_with output₀ full points)
-  emitted_whole full output e h w = rw e (
-    emitted_is false (le-ltb _ _ h) false,
-    w ∙ ap (λ (ps : List Point). in_front (line_record ps) output₀) (same_points n xs ys line count l.nodes_in_known ∙ is) ∙ output_is false (le-ltb _ _ h) false,
+  pub emitted_whole : (output : List ℕ) → 6 + 16 * count ≤ length output₀ → output ≡ in_front (line_record (points_in xs ys line count)) output₀
+      → (variant.Points count ≡ emitted_of output₀ points) × (output ≡ output_with output₀ points)
+  emitted_whole output h w = (
+    emitted_is false (le-ltb _ _ h),
+    w ∙ ap (λ (ps : List Point). in_front (line_record ps) output₀) (same_points n xs ys line count l.nodes_in_known ∙ is) ∙ output_is false (le-ltb _ _ h),
   )

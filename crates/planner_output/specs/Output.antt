@@ -1,4 +1,4 @@
--- Checks 14 and 18, and the record.
+-- Check 14, and the record.
 use Rattle.std.specs.Prelude.{List, Bool, true, false, ℕ, ◌+◌, ◌*◌, length, ltb}
 use Rattle.planner_spec.specs.LineRecord.{line_record}
 use Rattle.drawing_spec.specs.Bytes.{in_front}
@@ -10,19 +10,17 @@ use Rattle.planner_output.specs.declared.Emitted.TheVariants as variant
 abbrev pub short : List ℕ → ℕ → Bool
 short output points = ltb (length output) (6 + 16 * points)
 
--- by that test, and by whether the counter is full, which is asked behind it: the answer to a line, and the output with it
-abbrev pub emitted_by : Bool → Bool → ℕ → Emitted
-emitted_by true full points = variant.Short
-emitted_by false true points = variant.Full
-emitted_by false false points = variant.Points points
+-- by that test: the answer to a line, and the output with it
+abbrev pub emitted_by : Bool → ℕ → Emitted
+emitted_by true points = variant.Short
+emitted_by false points = variant.Points points
 
-abbrev pub output_by : Bool → Bool → List ℕ → List Point → List ℕ
-output_by true full output line = output
-output_by false true output line = output
-output_by false false output line = in_front (line_record line) output
+abbrev pub output_by : Bool → List ℕ → List Point → List ℕ
+output_by true output line = output
+output_by false output line = in_front (line_record line) output
 
-abbrev pub emitted_of : List ℕ → Bool → List Point → Emitted
-emitted_of output full line = emitted_by (short output (length line)) full (length line)
+abbrev pub emitted_of : List ℕ → List Point → Emitted
+emitted_of output line = emitted_by (short output (length line)) (length line)
 
-abbrev pub output_with : List ℕ → Bool → List Point → List ℕ
-output_with output full line = output_by (short output (length line)) full output line
+abbrev pub output_with : List ℕ → List Point → List ℕ
+output_with output line = output_by (short output (length line)) output line

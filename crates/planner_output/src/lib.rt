@@ -1,4 +1,4 @@
-// The line through the repaired graph, written into the output: the last step of a plan, with check 14 and, behind it, check 18.
+// The line through the repaired graph, written into the output: the last step of a plan, with check 14.
 ghost use Rattle.std.specs.Prelude.{◌≡◌, ◌≤◌};
 ghost use Rattle.limits.specs.Limits.{most_side};
 ghost use Rattle.file_records.specs.Meaning.{settings_of};
@@ -10,17 +10,15 @@ ghost use Rattle.planner_output.specs.Output.{emitted_of, output_with};
 use file_records::Settings;
 use limits::{ARC_ROOM, EDGE_ROOM, LINE_ROOM, MOST_NODES};
 
-// How many points the line has; `Short` where the output has no room for them (14); `Full` where it has, and the counter of
-// copies has none (18).
+// How many points the line has; `Short` where the output has no room for them.
 #[derive(Drop)]
 pub enum Emitted {
     Points(usize),
     Short,
-    Full,
 }
 
-// Writes the line of m edges between n nodes. Where it does not fit, or where the counter is `full`, which is for the caller to
-// say, nothing is written. What the arrays of the edges hold afterwards is left open.
+// Writes the line of m edges between n nodes. Where it does not fit, nothing is written. What the arrays of the edges
+// hold afterwards is left open.
 pub fn emit_line(
     xs: &[u32; MOST_NODES],
     ys: &[u32; MOST_NODES],
@@ -31,14 +29,13 @@ pub fn emit_line(
     n: usize,
     m: usize,
     settings: Settings,
-    full: bool,
     output: &mut [u8],
 ) -> Emitted
     requires sides { (settings.width ≤ most_side) × (settings.height ≤ most_side) }
     requires nodes { NodesHeld n xs.now ys.now }
     requires edges { EdgesHeld n m (adjacency ends.old weights.old next.old heads.old) }
-    ensures value { result ≡ emitted_of output.old full (line_of (settings_of settings) (nodes_in n xs.now ys.now) (edges_in m (adjacency ends.old weights.old next.old heads.old))) }
-    ensures output_after { output.new ≡ output_with output.old full (line_of (settings_of settings) (nodes_in n xs.now ys.now) (edges_in m (adjacency ends.old weights.old next.old heads.old))) }
+    ensures value { result ≡ emitted_of output.old (line_of (settings_of settings) (nodes_in n xs.now ys.now) (edges_in m (adjacency ends.old weights.old next.old heads.old))) }
+    ensures output_after { output.new ≡ output_with output.old (line_of (settings_of settings) (nodes_in n xs.now ys.now) (edges_in m (adjacency ends.old weights.old next.old heads.old))) }
 {
     // 8,004 bytes; with the arrays of the walk below it 30,652 in all.
     let mut line = [0u16; LINE_ROOM];
@@ -47,9 +44,6 @@ pub fn emit_line(
     );
     if output.len() < 6 + 16 * count {
         return Emitted::Short;
-    }
-    if full {
-        return Emitted::Full;
     }
     record::write_line(xs, ys, &line, count, output);
     Emitted::Points(count)

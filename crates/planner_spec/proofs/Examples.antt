@@ -32,16 +32,16 @@ stop_refuses g s output n = refl
 abbrev one : Float
 one = fin false 1 (pos 0)
 
-unfoldable pub along : ℕ → List Point
+along : ℕ → List Point
 along zero = []
 along (suc n) = record { x = n; y = 0 } ∷ along n
 
-unfoldable pub spokes : ℕ → List Edge
+spokes : ℕ → List Edge
 spokes zero = []
 spokes (suc n) = edge 0 (suc n) one ∷ spokes n
 
 -- n edges from node 0, each to a node of its own
-unfoldable pub star : ℕ → Graph
+star : ℕ → Graph
 unfolding along spokes
 star n = record { nodes = along (suc n); edges = spokes n }
 
@@ -55,7 +55,7 @@ bundle : ℕ → List Edge → Graph
 unfolding along
 bundle n es = record { nodes = along 6; edges = edge 0 1 one ∷ es ++ replicate n (edge 2 3 one) }
 
-abbrev pub settings : ℕ → ℕ → Settings
+abbrev settings : ℕ → ℕ → Settings
 settings pairing flags = record { width = 10; height = 10; pairing = pairing; flags = flags }
 
 answer_to : ℕ → Graph → ℕ → ℕ → ℕ → Answer

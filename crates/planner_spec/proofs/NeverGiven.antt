@@ -23,7 +23,7 @@ gives n (condition k t) = eqb k n && t
 abbrev pub Never : ℕ → List Condition → Type 0
 Never n cs = every (λ (c : Condition). not (gives n c)) cs ≡ true
 
-pub never_refused : (n : ℕ) (cs : List Condition) → Never n cs → verdict cs ≡ refused n → ⊥
+never_refused : (n : ℕ) (cs : List Condition) → Never n cs → verdict cs ≡ refused n → ⊥
 unfolding every verdict
 never_refused n [] a h = true≢false (cc)
 never_refused n (condition k true ∷ cs) a h = let same : k ≡ n = cc in false≢true (rw (eq-eqb k n same) at (both (not (eqb k n && true)) (every (λ (c : Condition). not (gives n c)) cs) a).0)

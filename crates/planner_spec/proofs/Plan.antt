@@ -1,21 +1,22 @@
--- The plan of a file is that of its graph; and what an accepted plan is.
+-- The plan by cases, in the order in which code finds them; and what an accepted plan is.
 use mathlib.Core.Path.{◌≡◌, refl, sym, ap, subst, ◌∙◌}
 use mathlib.Core.Logic.{◌⊎◌}
-use mathlib.Core.List.{List}
-use mathlib.Core.Bool.{true, false, true≢false}
+use mathlib.Core.List.{List, [], ◌∷◌}
+use mathlib.Core.Bool.{Bool, true, false, not, true≢false}
 use Prim.Native.Nat.{ℕ, ◌+◌, ◌*◌, ◌≤◌}
 use lib.ListN.{length}
+use lib.Dec.{ltb}
 use borrow.Author.Tests.{not-false, ltb-false}
-use Rattle.limits.specs.Limits.{most_edges, refused_apart, refused_path, refused_edges, refused_output}
+use Rattle.limits.specs.Limits.{most_odd, most_edges, refused_apart, refused_tables, refused_path, refused_edges, refused_output}
 use Rattle.drawing_spec.specs.Drawing.{Settings, Drawing}
-use Rattle.drawing_spec.specs.Refusal.{Verdict, refused, accepted, verdict, holds}
+use Rattle.drawing_spec.specs.Refusal.{Condition, condition, Verdict, refused, accepted, verdict, holds}
 use Rattle.drawing_spec.proofs.Refusal.{fails}
 use Rattle.drawing_spec.specs.Read.{read_conditions}
 use Rattle.graph_spec.specs.Graph.{Graph, build_graph}
 use Rattle.graph_spec.specs.Reach.{all_reached}
-use Rattle.repair_spec.specs.Repair.{Repair, Repairing, stopped, repaired}
+use Rattle.repair_spec.specs.Repair.{Repair, Repairing, stopped, repaired, table_short}
 use Rattle.repair_spec.proofs.Stops.{stops}
-use Rattle.planner_spec.specs.Plan.{Lent, Planned, refusal, planned, Outcome, drawing_in, repair_of, line_for, graph_conditions, output_conditions, answer_for, refuse, accept, plan_repaired, plan_graph, plan_drawing, plan}
+use Rattle.planner_spec.specs.Plan.{Lent, Planned, refusal, planned, Outcome, drawing_in, odd_count, repair_of, line_for, graph_conditions, output_conditions, answer_for, refuse, accept, plan_repaired, plan_graph, plan_drawing, plan}
 
 -- ---- a file
 
@@ -41,6 +42,56 @@ pub stops_by : (g : Graph) (s : Settings) (k : ℕ) → repair_of g s ≡ stoppe
 unfolding repair_of
 stops_by g s k e = stops most_edges refused_edges g s k e
 
+-- ---- a graph, by cases
+
+module _ (g : Graph) (s : Settings) (lent : Lent) where
+  -- conditions 9 and 11, for any truth of them
+  abbrev conditions : Bool → Bool → List Condition
+  conditions reached tables = condition refused_apart (not reached) ∷ condition refused_tables tables ∷ []
+
+  abbrev outcome : Verdict → Repairing → Outcome
+  outcome v x = elim v [ refused n ↦ refuse n lent | accepted ↦ plan_repaired g s lent x ]
+
+  abbrev pub Reached : Bool → Type 0
+  Reached b = all_reached (length g.nodes) g.edges ≡ b
+
+  abbrev pub ShortTables : Bool → Type 0
+  ShortTables b = table_short most_odd s (odd_count g g.edges) lent.floats lent.bytes ≡ b
+
+  by : {a b : Bool} {x : Repairing} → Reached a → ShortTables b → repair_of g s ≡ x → plan_graph g s lent ≡ outcome (verdict (conditions a b)) x
+  unfolding plan_graph graph_conditions
+  by h i j = λ z. outcome (verdict (conditions (h z) (i z))) (j z)
+
+  pub plan_apart : Reached false → plan_graph g s lent ≡ refuse refused_apart lent
+  unfolding verdict
+  plan_apart h = by h refl refl
+
+  module _ (reached : Reached true) where
+    pub plan_tables : ShortTables true → plan_graph g s lent ≡ refuse refused_tables lent
+    unfolding verdict
+    plan_tables h = by reached h refl
+
+    module _ (long : ShortTables false) where
+      pub plan_stopped : (k : ℕ) → repair_of g s ≡ stopped k → plan_graph g s lent ≡ refuse k lent
+      unfolding verdict plan_repaired
+      plan_stopped k e = by reached long e
+
+      module _ (r : Repair) (is : repair_of g s ≡ repaired r) where
+        abbrev on_output : Bool → Outcome
+        on_output short = elim (verdict (condition refused_output short ∷ [])) [ refused n ↦ refuse n lent | accepted ↦ accept g s lent r ]
+
+        by_output : {f : Bool} → ltb (length lent.output) (6 + 16 * length (line_for g s r)) ≡ f → plan_graph g s lent ≡ on_output f
+        unfolding verdict plan_repaired output_conditions
+        by_output h = by reached long is ∙ ap on_output h
+
+        pub plan_output : ltb (length lent.output) (6 + 16 * length (line_for g s r)) ≡ true → plan_graph g s lent ≡ refuse refused_output lent
+        unfolding verdict
+        plan_output h = by_output h
+
+        pub plan_drawn : ltb (length lent.output) (6 + 16 * length (line_for g s r)) ≡ false → plan_graph g s lent ≡ accept g s lent r
+        unfolding verdict
+        plan_drawn h = by_output h
+
 -- ---- accepted
 
 -- a graph that is planned: every node is reached, there is a repair, and its line has room
@@ -53,9 +104,6 @@ pub record Drawn (g : Graph) (s : Settings) (lent : Lent) (answer : Planned) : T
   pub answers : answer_for g s repair ≡ answer
 
 module _ (g : Graph) (s : Settings) (lent : Lent) (answer : Planned) where
-  abbrev outcome : Verdict → Repairing → Outcome
-  outcome v x = elim v [ refused n ↦ refuse n lent | accepted ↦ plan_repaired g s lent x ]
-
   abbrev ended : Repair → Verdict → Outcome
   ended r v = elim v [ refused n ↦ refuse n lent | accepted ↦ accept g s lent r ]
 
@@ -70,7 +118,7 @@ module _ (g : Graph) (s : Settings) (lent : Lent) (answer : Planned) where
         repair = r;
         repairs = e;
         room = ltb-false (length lent.output) (6 + 16 * length (line_for g s r)) (fails (output_conditions g s lent r) i refused_output);
-        is = (λ z. outcome (c z) (e z)) ∙ ap (ended r) i;
+        is = (λ z. outcome g s lent (c z) (e z)) ∙ ap (ended r) i;
         answers = cc;
       }
 
@@ -78,7 +126,7 @@ module _ (g : Graph) (s : Settings) (lent : Lent) (answer : Planned) where
   unfolding plan_graph plan_repaired
   drawn h = go (verdict (graph_conditions g s lent)) refl (repair_of g s) refl h
     where
-      go : (v : Verdict) → verdict (graph_conditions g s lent) ≡ v → (x : Repairing) → repair_of g s ≡ x → (outcome v x).answer ≡ planned answer → Drawn g s lent answer
+      go : (v : Verdict) → verdict (graph_conditions g s lent) ≡ v → (x : Repairing) → repair_of g s ≡ x → (outcome g s lent v x).answer ≡ planned answer → Drawn g s lent answer
       go (refused n) c x e k = absurd (true≢false (cc))
       go accepted c (stopped j) e k = absurd (true≢false (cc))
       go accepted c (repaired r) e k = drawn_repaired c r e k

@@ -10,7 +10,7 @@ use Rattle.graph_spec.specs.Odd.{one, is_odd}
 use Rattle.graph_spec.specs.Count.{steps_between}
 use Rattle.repair_spec.specs.Repair.{Repairing, stopped, repaired}
 use Rattle.planner_spec.specs.Plan.{repair_of, line_for}
-use Rattle.planner_spec.specs.Words.{pieces_between, links_between, retraces_in, copies_between, copies_in, repaired_edges, drawn_at, copies_at, odd, left_odd}
+use Rattle.planner_spec.specs.Words.{pieces_between, links_between, retraces_in, copies_between, drawn_at, copies_at, odd, left_odd}
 use Rattle.planner_spec.specs.Demand3.{NoneOdd}
 
 -- ---- drawings. Coordinates are places on the grid; the canvas has no say in what is counted.
@@ -174,19 +174,6 @@ dash_copies : map (λ (count : Point → Point → Drawing → ℕ). table count
     ∷ []
 unfolding dashes copies_between pieces_between links_between build_graph repair_of line_for
 dash_copies = refl
-
--- In all: nothing is gone over where none or two points are odd and the line is left open; closing goes back over the segment. The H, closing, has retraces of three edges, one and three.
-drawings : List Drawing
-drawings = segment 0 ∷ segment 1 ∷ cross 0 0 ∷ cross 0 1 ∷ narrow_h 0 ∷ narrow_h 1 ∷ triangle ∷ []
-
-copies_in_all : map copies_in drawings ≡ 0 ∷ 1 ∷ 2 ∷ 4 ∷ 4 ∷ 7 ∷ 0 ∷ []
-unfolding drawings copies_in
-copies_in_all = refl
-
--- and with them the pieces
-edges_in_all : map repaired_edges drawings ≡ 1 ∷ 2 ∷ 6 ∷ 8 ∷ 9 ∷ 12 ∷ 3 ∷ []
-unfolding drawings repaired_edges
-edges_in_all = refl
 
 -- ---- what ends at a point
 

@@ -1,8 +1,8 @@
 -- The words of demand 3, as document 01 has them, of a drawing.
-use Rattle.std.specs.Prelude.{ℕ, ◌+◌, List, [], map, Bool, length}
+use Rattle.std.specs.Prelude.{ℕ, ◌+◌, List, [], map, Bool}
 use Rattle.drawing_spec.specs.Drawing.{Point, Drawing}
 use Rattle.graph_spec.specs.Pieces.{pieces_of, links_of}
-use Rattle.graph_spec.specs.Graph.{Edge, point_at, build_graph}
+use Rattle.graph_spec.specs.Graph.{point_at, build_graph}
 use Rattle.graph_spec.specs.Odd.{is_odd}
 use Rattle.graph_spec.specs.Count.{sum_over, line_sum, touches, strokes_at, steps_between, strokes_between}
 use Rattle.repair_spec.specs.Repair.{Repairing, stopped, repaired}
@@ -31,24 +31,6 @@ retraces_in d = let g = build_graph d in map (λ (way : List ℕ). map (point_at
 unfoldable pub copies_between : Point → Point → Drawing → ℕ
 unfolding retraces_in sum_over line_sum
 copies_between p q d = sum_over (λ (way : List Point). steps_between p q way) (retraces_in d)
-
--- the copies of some retraces in all: one for each edge of each, whether points or nodes are gone along
-unfoldable pub copies_along : {A : Type 0} → List (List A) → ℕ
-unfolding sum_over line_sum
-copies_along {A} ways = sum_over (λ (way : List A). line_sum (λ (a b : A). 1) way) ways
-
-unfoldable pub copies_in : Drawing → ℕ
-unfolding retraces_in copies_along
-copies_in d = copies_along (retraces_in d)
-
--- how many edges the repaired graph has
-abbrev pub edges_of : Repairing → List Edge
-edges_of (stopped n) = []
-edges_of (repaired r) = r.edges
-
-unfoldable pub repaired_edges : Drawing → ℕ
-unfolding build_graph repair_of
-repaired_edges d = let g = build_graph d in length (edges_of (repair_of g d.settings))
 
 -- how many pieces and links, and how many copies, have an end at p: each counts once for each end that is there
 unfoldable pub drawn_at : Point → Drawing → ℕ

@@ -15,16 +15,12 @@ line_end = 10
 abbrev pub minus : ℕ
 minus = 45
 
--- `refused `, `ok ` and `tray `
+-- `refused ` and `ok `
 abbrev pub refused_word : List ℕ
 refused_word = 114 ∷ 101 ∷ 102 ∷ 117 ∷ 115 ∷ 101 ∷ 100 ∷ blank ∷ []
 
 abbrev pub ok_word : List ℕ
 ok_word = 111 ∷ 107 ∷ blank ∷ []
-
--- behind it stands the counter of a tray's record
-abbrev pub tray_word : List ℕ
-tray_word = 116 ∷ 114 ∷ 97 ∷ 121 ∷ blank ∷ []
 
 -- a number in decimal; k is at least its number of digits
 unfoldable pub decimal_in : ℕ → ℕ → List ℕ

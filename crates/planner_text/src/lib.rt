@@ -1,5 +1,5 @@
 // What the program `plan` prints, made as one text, so that it is written by one call: number by number, the calls took longer than
-// the plan. A crate of its own, since it is the programs' alone: `save` prints a refusal as `plan` does, `plan_tray` each of two answers.
+// the plan. A crate of its own, since it is the programs' alone: `save` prints a refusal as `plan` does.
 ghost use Rattle.std.specs.Prelude.{◌≡◌, ◌∷◌, [], ◌++◌, ◌+◌, ◌*◌, ◌≤◌, length, drop};
 ghost use Rattle.std.specs.Float.{binary64};
 ghost use Rattle.std.specs.Float.Ieee.{to_bits};
@@ -8,7 +8,7 @@ ghost use Rattle.sums.specs.Key.{Nonneg};
 ghost use Rattle.drawing_spec.specs.Read.{point, points};
 ghost use Rattle.drawing_spec.specs.Bytes.{in_front};
 ghost use Rattle.planner_graph.specs.Answer.{answer_of};
-ghost use Rattle.planner_text.specs.Text.{decimal, hex, steps_text, point_text, points_text, field, first_line, printed, refused_word, tray_word, blank, line_end};
+ghost use Rattle.planner_text.specs.Text.{decimal, hex, steps_text, point_text, points_text, field, first_line, printed, refused_word, blank, line_end};
 ghost use Rattle.planner_text.specs.Put.{Put, text_room, Printable};
 
 use grid::ORIGIN;
@@ -142,16 +142,6 @@ pub fn put_refusal(text: &mut [u8], number: u8) -> usize
 {
     let behind = put_word(text, 0, b"refused ");
     put_field(text, behind, number as u64, LINE_END)
-}
-
-// Puts the line of a tray's record.
-pub fn put_tray(text: &mut [u8], copies: u32) -> usize
-    requires { 26 ≤ length text.old }
-    ensures put { Put text.old 0 (tray_word ++ field copies line_end) text.new result }
-    ensures short { result ≤ 26 }
-{
-    let behind = put_word(text, 0, b"tray ");
-    put_field(text, behind, copies as u64, LINE_END)
 }
 
 // The bits of a retrace's length.

@@ -3,7 +3,6 @@ use mathlib.Core.Path.{◌≡◌, ap, ◌∙◌}
 use Prim.Native.Nat.{ℕ}
 use lib.ListN.{length, replicate}
 use borrow.Author.Rules.{rules}
-use Rattle.limits.specs.Limits.{most_edges}
 use Rattle.repair_spec.specs.Distance.{zero_length}
 use Rattle.planner.proofs.Answer.{after_call, demand_met}
 use Rattle.planner.proofs.plan_file.Statement.{statement}
@@ -12,10 +11,10 @@ use Rattle.planner.proofs.plan_file.Reads as reads
 use Rattle.planner.proofs.plan_file.Lts as lts
 use Rattle.tables.proofs.clear_bytes.Reads as clear-bytes-reads
 use Rattle.tables.proofs.clear_floats.Reads as clear-floats-reads
-use Rattle.planner.proofs.plan_ball.Reads as plan-ball-reads
+use Rattle.planner.proofs.plan_bytes.Reads as plan-bytes-reads
 
-plan-ball-requires : tie.Need-plan-ball-requires
-plan-ball-requires c κs = search rules
+plan-bytes-requires : tie.Need-plan-bytes-requires
+plan-bytes-requires c κs = search rules
 
 clear-floats-requires : tie.Need-clear-floats-requires
 clear-floats-requires c κs = search rules
@@ -36,15 +35,15 @@ returns : tie.Need-returns
 returns c =
     let p = c.before.before.before.before.before.before.before.before.before.before.before.before.before.before in
     let b = p.before.before.before.before.before.before.before.before in
-    let lf : length p.plan-ball.new.1.0 ≡ length b.args.floats.now = search rules in
-    let lb : length p.plan-ball.new.1.1.0 ≡ length b.args.bytes.now = search rules in
-    let is = p.plan-ball.ensures.0 in (
-      after_call b.args.file.now b.args.floats.now b.args.bytes.now b.args.output.now p.plan-ball.result _ is _ _
+    let lf : length p.plan-bytes.new.1.0 ≡ length b.args.floats.now = search rules in
+    let lb : length p.plan-bytes.new.1.1.0 ≡ length b.args.bytes.now = search rules in
+    let is = p.plan-bytes.ensures.0 in (
+      after_call b.args.file.now b.args.floats.now b.args.bytes.now b.args.output.now p.plan-bytes.result _ is _ _
           (c.before.before.before.before.before.before.clear-floats.ensures ∙ ap (λ (k : ℕ). replicate k zero_length) lf)
           (c.before.before.clear-bytes.ensures ∙ ap (λ (k : ℕ). replicate {A = ℕ} k 0) lb),
       (
-        demand_met b.args.file.now b.args.floats.now b.args.bytes.now b.args.output.now most_edges 0 p.plan-ball.result _ is,
-        p.plan-ball.ensures.1,
+        demand_met b.args.file.now b.args.floats.now b.args.bytes.now b.args.output.now p.plan-bytes.result _ is,
+        p.plan-bytes.ensures.1,
       ),
     )
 
@@ -52,7 +51,7 @@ pub plan_file_spec : {M : Type 1} → statement M
 plan_file_spec =
     tie.close
     (tie.spec
-    plan-ball-requires
+    plan-bytes-requires
     clear-floats-requires
     clear-bytes-requires
     same_length

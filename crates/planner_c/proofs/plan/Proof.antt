@@ -1,14 +1,21 @@
 -- `planner_c::plan` meets its contract. Assumes nothing.
+use mathlib.Core.Path.{sym}
 use borrow.Author.Rules.{rules}
-use Rattle.planner_c.proofs.ExportedLaws.{outcome_is, output_is, tables_are, demand_met}
+use Rattle.planner_c.proofs.ExportedLaws.{output_is, floats_are, bytes_are, refused_exported, refused_some, planned_exported, planned_demand}
 use Rattle.planner_c.proofs.plan.Statement.{statement}
 use Rattle.planner_c.proofs.plan.Tie as tie
 
 plan-file-requires : tie.Need-plan-file-requires
 plan-file-requires c κs = search rules
 
-outcome-of-requires : tie.Need-outcome-of-requires
-outcome-of-requires c κs = search rules
+enum-known-answer : tie.Need-enum-known-answer
+enum-known-answer c = search rules
+
+cast-t18 : tie.Need-overflow-cast-t18
+cast-t18 c = search rules
+
+enum-known-answer-2 : tie.Need-enum-known-answer-2
+enum-known-answer-2 c = search rules
 
 same_length : tie.Need-same-length
 same_length c = search rules
@@ -20,23 +27,51 @@ same-length-3 : tie.Need-same-length-3
 same-length-3 c = search rules
 
 returns : tie.Need-returns
+unfolding lib.Ieee.of_bits
 returns c =
-    let f = c.before.before.before.before.before.before.before in
-    let a = f.before.before.before.before.before.before.before.before.args in
+    let f = c.before.before.before.before.before.before.before.before.before in
     let p = f.plan-file in
-    let l = p.new.1 in
-    let o = c.outcome-of in (
-      outcome_is a.file.now a.floats.now l.0 a.bytes.now l.1.0 a.output.now l.1.1.0 p.result p.ensures.0 o.result o.ensures,
-      (
-        output_is a.file.now a.floats.now l.0 a.bytes.now l.1.0 a.output.now l.1.1.0 p.result p.ensures.0 o.result o.ensures,
-        (
-          tables_are a.file.now a.floats.now l.0 a.bytes.now l.1.0 a.output.now l.1.1.0 p.result p.ensures.0 o.result o.ensures,
-          demand_met a.file.now a.floats.now l.0 a.bytes.now l.1.0 a.output.now l.1.1.0 p.result p.ensures.0 o.result o.ensures p.ensures.1.0,
-        ),
-      ),
+    let is = p.ensures.0 in
+    let met = p.ensures.1.0 in
+    let number = p.ensures.1.1 in
+    let e = c.before.answer.given.1 in (
+      refused_exported _ _ _ _ _ _ _ p.result is met number _ (sym e),
+      (output_is _ _ _ _ _ _ _ p.result is met number, ((floats_are _ _ _ _ _ _ _ p.result is met number, bytes_are _ _ _ _ _ _ _ p.result is met number), refused_some _ _ _ _ _ _ _ p.result is met number _ (sym e))),
+    )
+
+same-length-4 : tie.Need-same-length-4
+same-length-4 c = search rules
+
+same-length-5 : tie.Need-same-length-5
+same-length-5 c = search rules
+
+same-length-6 : tie.Need-same-length-6
+same-length-6 c = search rules
+
+returns-2 : tie.Need-returns-2
+returns-2 c =
+    let p = c.before.before.before.before.before.before.before.before.before.plan-file in
+    let is = p.ensures.0 in
+    let met = p.ensures.1.0 in
+    let number = p.ensures.1.1 in
+    let e = c.before.answer2.given.1 in (
+      planned_exported _ _ _ _ _ _ _ p.result is met number _ _ _ _ (sym e),
+      (output_is _ _ _ _ _ _ _ p.result is met number, ((floats_are _ _ _ _ _ _ _ p.result is met number, bytes_are _ _ _ _ _ _ _ p.result is met number), λ z. planned_demand _ _ _ _ _ _ _ p.result is met number _ _ _ _ (sym e))),
     )
 
 pub plan_spec : {M : Type 1} → statement M
 plan_spec =
     tie.close
-    (tie.spec plan-file-requires outcome-of-requires same_length same-length-2 same-length-3 returns)
+    (tie.spec
+    plan-file-requires
+    enum-known-answer
+    cast-t18
+    enum-known-answer-2
+    same_length
+    same-length-2
+    same-length-3
+    returns
+    same-length-4
+    same-length-5
+    same-length-6
+    returns-2)
