@@ -38,7 +38,7 @@ no_flags : (n : ℕ) → eqb (n / 4 % 2) 1 ≡ false → leb n 3 ≡ false → l
 no_flags n h e = go (leb n 7) refl
   where
     go : (t : Bool) → leb n 7 ≡ t → t ≡ false
-    go true f = let k = leb_false n 3 e in let m = leb-true n 7 f in absurd (eqb-false (n / 4 % 2) 1 h (omega arith))
+    go true f = let k = leb-false n 3 e in let m = leb-true n 7 f in absurd (eqb-false (n / 4 % 2) 1 h (omega arith))
     go false f = refl
 
 same_flags : (n : ℕ) → eqb (n / 4 % 2) 1 ≡ false → leb n 7 ≡ leb n 3

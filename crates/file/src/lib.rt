@@ -3,6 +3,8 @@
 //
 // Check 1 is made here, checks 2 to 7 and 15 are in `file_checks`, and check 8 and the arrays in `file_drawing`. This crate has the
 // checks in their order and what the reader answers.
+#![tactic(auto)]
+
 ghost use Rattle.std.specs.Prelude.{◌≡◌};
 ghost use Rattle.drawing_spec.specs.Read.{records_of, drawing_of};
 ghost use Rattle.drawing_spec.specs.Accepted.{Passed};
@@ -18,14 +20,14 @@ use limits::{
 };
 
 // The reader's answer to a file: the number of the first condition that holds, or that none does.
-#[derive(Drop)]
+#[derive(Clone, Copy)]
 pub enum Verdict {
     Refused(u8),
     Accepted,
 }
 
 // The verdict, and the drawing of an accepted file; of a refused one, a drawing with nothing in it.
-#[derive(Drop)]
+#[derive(Clone, Copy)]
 pub struct Reading {
     pub verdict: Verdict,
     pub drawing: Drawing,
@@ -35,7 +37,8 @@ pub struct Reading {
 fn first_refusal(file: &[u8]) -> u8
     ensures { result ≡ before_links file.now }
 {
-    if MOST_BYTES < file.len() {
+    let many_bytes = MOST_BYTES < file.len();
+    if many_bytes {
         return REFUSED_BYTES;
     }
     let cut = heads::is_cut(file);

@@ -1,4 +1,6 @@
 // The reader for programs in other languages: the number of the refusal, and 0 for an accepted file.
+#![tactic(auto)]
+
 ghost use Rattle.std.specs.Prelude.{◌≡◌};
 ghost use Rattle.drawing_spec.specs.Refusal.{verdict, refusal_of};
 ghost use Rattle.drawing_spec.specs.Read.{read_conditions};

@@ -1,10 +1,13 @@
 // Replays tools/reader_cases.py's drawing files against the reader, and prints how many there were and
 // how many came out otherwise: another verdict, another value anywhere in the drawing.
+#![tactic(auto)]
+
 ghost use Rattle.std.specs.Prelude.{◌≤◌, ◌<◌};
 
 use file::Verdict;
 use file_drawing::Drawing;
 use file_records::{MstEdge, Point};
+use std::io;
 
 // Room for a drawing file of 65,537 bytes.
 const ROOM: usize = 65_600;
@@ -55,7 +58,7 @@ fn repeat(
 }
 
 // How many bytes a case's drawing file has, and where the data goes on.
-#[derive(Drop)]
+#[derive(Clone, Copy)]
 struct Built {
     len: usize,
     next: usize,
@@ -120,19 +123,16 @@ fn mixed_entries(
 }
 
 // The checksum of all that a drawing holds but its links.
-fn checksum(d: Drawing) -> u64 {
-    let starts = d.starts;
-    let xs = d.xs;
-    let ys = d.ys;
+fn checksum(d: &Drawing) -> u64 {
     let settings = d.settings;
     let sum = mixed(0, settings.width as u64);
     let sum = mixed(sum, settings.height as u64);
     let sum = mixed(sum, settings.pairing as u64);
     let sum = mixed(sum, settings.flags as u64);
     let sum = mixed(sum, d.lines as u64);
-    let sum = mixed_entries(&starts, &xs, &ys, 0, 257, sum);
+    let sum = mixed_entries(&d.starts, &d.xs, &d.ys, 0, 257, sum);
     let sum = mixed(sum, d.points as u64);
-    let sum = mixed_entries(&starts, &xs, &ys, 257, 2305, sum);
+    let sum = mixed_entries(&d.starts, &d.xs, &d.ys, 257, 2305, sum);
     mixed(sum, d.link_count as u64)
 }
 
@@ -225,7 +225,7 @@ fn right(data: &[u8], at: usize, file: &[u8]) -> bool {
         return false;
     }
     let drawing = reading.drawing;
-    if checksum(drawing) != number(data, at, 1, 4) {
+    if checksum(&drawing) != number(data, at, 1, 4) {
         return false;
     }
     let count = number(data, at, 5, 2);
@@ -244,7 +244,7 @@ fn front_right(data: &[u8], at: usize, file: [u8; 65600], len: usize) -> bool
 }
 
 // Where the next case starts, and 1 where this one came out otherwise.
-#[derive(Drop)]
+#[derive(Clone, Copy)]
 struct Step {
     next: usize,
     wrong: u64,
@@ -279,10 +279,10 @@ fn count_wrong(data: &[u8], cases: u64) -> u64 {
     found
 }
 
-fn main() {
+fn main(rt: HostRuntime) -> io::Result<()> {
     let mut buf = [0u8; 131072];
-    let n = test_data::load(b"cases", &mut buf);
+    let n = test_data::load(&rt, "cases", &mut buf);
     let data = &buf[..n];
     let cases = number(data, 0, 0, 2);
-    test_data::report(b"reader", cases, b"files", count_wrong(data, cases));
+    test_data::report(&rt, b"reader", cases, b"files", count_wrong(data, cases))
 }

@@ -29,7 +29,8 @@ pub fn settings_fit(s: Settings) -> bool
 pub fn own_links_fit(s: Settings, links: usize) -> bool
     ensures { result ≡ (not (linking (settings_of s)) || eqb links 0) }
 {
-    if s.flags / 4 % 2 == 1 {
+    let linking = s.flags / 4 % 2 == 1;
+    if linking {
         return links == 0;
     }
     true

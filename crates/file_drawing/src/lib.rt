@@ -1,5 +1,7 @@
 // A drawing in flat arrays: `arrays` reads the lines and the links of a file into them, and `links` is check 8.
 // A crate of its own, so that what is built of a drawing does not depend on the checks' order.
+#![tactic(auto)]
+
 pub mod arrays;
 pub mod links;
 
@@ -8,7 +10,7 @@ use limits::{MOST_LINES, MOST_LINKS, MOST_POINTS};
 
 // A drawing in flat arrays, each filled up with zeros behind what it holds. Line i's points are those
 // from starts[i] to starts[i + 1], each coordinate by its place on the grid.
-#[derive(Drop)]
+#[derive(Clone, Copy)]
 pub struct Drawing {
     pub settings: Settings,
     pub lines: usize,

@@ -1,20 +1,21 @@
 // The record reader: a struct that refers to the file's bytes, with a place in them. `next` hands out the body of the next
 // record as a part of the file, and the reader behind that record; `body_of` and `place_behind` do the same from a plain slice and a
-// number, so that a pass over a file keeps its place as a number. These three are thin and proved by hand; `body_part` and `behind_at`,
-// which do the work, take a plain slice and are covered.
+// number, so that a pass over a file keeps its place as a number. These three are thin; `body_part` and `behind_at` do the work.
+#![tactic(auto)]
+
 ghost use Rattle.std.specs.Prelude.{◌≡◌};
 ghost use Rattle.file_reader.specs.Part.{body_part, behind_at};
 
 use limits::HEAD_SIZE;
 
-#[derive(Drop)]
+#[derive(Clone, Copy)]
 pub struct RecordReader<'a> {
     pub file: &'a [u8],
     pub at: usize,
 }
 
 // The body of the next record, and the reader behind it.
-#[derive(Drop)]
+#[derive(Clone, Copy)]
 pub struct NextRecord<'a> {
     pub body: &'a [u8],
     pub behind: RecordReader<'a>,
@@ -59,7 +60,6 @@ pub fn next<'a>(r: RecordReader<'a>) -> NextRecord<'a>
 }
 
 // The body of the record at a place of a file, and the place behind it; no bytes and the place itself where none stands there whole.
-// Their parameters are a plain slice and a number, so whoever calls them needs no proof by hand.
 pub fn body_of(file: &[u8], at: usize) -> &[u8]
     ensures { result.now ≡ body_part file.now at }
 {

@@ -1,5 +1,7 @@
 // The records of a drawing file, read where they stand: a 4-byte body length, a 2-byte kind, the body,
 // every number with its lowest byte first. Nothing is copied but what a record's body says.
+#![tactic(auto)]
+
 ghost use Rattle.std.specs.Prelude.{◌≡◌, ◌+◌, ◌≤◌, ◌<◌, length, drop};
 ghost use Rattle.limits.specs.Limits.{head_size, settings_size, point_size, link_size};
 ghost use Rattle.grid.specs.Grid.{read_place, place_at, on_grid};
@@ -13,14 +15,14 @@ use limits::{
 };
 
 // A point of a link: the source's type.
-#[derive(Drop)]
+#[derive(Clone, Copy)]
 pub struct Point {
     pub x: f64,
     pub y: f64,
 }
 
 // A link, by the source's name: the line and the segment that each of its ends splits, and where.
-#[derive(Drop)]
+#[derive(Clone, Copy)]
 pub struct MstEdge {
     pub poly_a: u16,
     pub seg_a: u16,
@@ -30,7 +32,7 @@ pub struct MstEdge {
     pub point_b: Point,
 }
 
-#[derive(Drop)]
+#[derive(Clone, Copy)]
 pub struct Settings {
     pub width: u32,
     pub height: u32,
@@ -40,7 +42,7 @@ pub struct Settings {
 
 // What a record's body holds; of a line, how many points. `Other` is a record that document 01 does not have: it passes the end of
 // the file, or its kind or its length is none of the three.
-#[derive(Drop)]
+#[derive(Clone, Copy)]
 pub enum Body {
     Settings(Settings),
     Line(usize),
@@ -49,7 +51,7 @@ pub enum Body {
 }
 
 // A record read, with its place in the file.
-#[derive(Drop)]
+#[derive(Clone, Copy)]
 pub struct Record {
     pub at: usize,
     pub body: Body,
@@ -176,11 +178,13 @@ fn edge_at(file: &[u8], at: usize) -> MstEdge
 pub fn whole_at(file: &[u8], at: usize) -> bool
     ensures { result ≡ whole_at file.now at }
 {
-    if file.len() < at {
+    let past_end = file.len() < at;
+    if past_end {
         return false;
     }
     let left = file.len() - at;
-    if left < HEAD_SIZE {
+    let short = left < HEAD_SIZE;
+    if short {
         return false;
     }
     let size = size_at(file, at);

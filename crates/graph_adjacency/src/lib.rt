@@ -4,6 +4,8 @@
 // e + FIRST_END from its first; 0 is no arc. `ends` has at k - 1 the node that arc k leads to, `next` at k - 1
 // the arc of the next older edge that has the same node as the same end. `heads` has the newest arc of
 // each node v: at v by first ends, at v + MOST_NODES by second ends.
+#![tactic(auto)]
+
 ghost use Rattle.std.specs.Prelude.{◌≡◌, ◌<◌, ◌≤◌, get_or};
 ghost use Rattle.std.specs.Float.{nan};
 ghost use Rattle.limits.specs.Limits.{most_nodes, edge_room, arc_room};
@@ -45,7 +47,8 @@ pub fn first_arc(heads: &[u16; 2 * MOST_NODES], v: usize) -> usize
     ensures { result ≡ first_arc heads.now v }
 {
     let head = widen::wide(heads[v]);
-    if head == 0 {
+    let none = head == 0;
+    if none {
         return widen::wide(heads[v + MOST_NODES]);
     }
     head
@@ -60,7 +63,8 @@ pub fn next_arc(next: &[u16; ARC_ROOM], heads: &[u16; 2 * MOST_NODES], v: usize,
     if k <= EDGE_ROOM {
         return older;
     }
-    if older == 0 {
+    let last = older == 0;
+    if last {
         return widen::wide(heads[v + MOST_NODES]);
     }
     older

@@ -1,4 +1,6 @@
 // The chain of one segment, from its start to its end: a step to each split point that stays, and to the end.
+#![tactic(auto)]
+
 ghost use Rattle.std.specs.Prelude.{◌≡◌, ◌≤◌};
 ghost use Rattle.limits.specs.Limits.{most_splits};
 ghost use Rattle.graph_splits.specs.Next.{at};

@@ -31,11 +31,13 @@ module _ {A : Type 0} where
   without : (x : A) (ys : List A) → In x ys → List A
   without x (y ∷ ys) (inl e) = ys
   without x (y ∷ ys) (inr i) = y ∷ without x ys i
+  without x [] x'' = elim x'' [ ]
 
   without_length : (x : A) (ys : List A) (i : In x ys) → length ys ≡ suc (length (without x ys i))
   unfolding without
   without_length x (y ∷ ys) (inl e) = refl
   without_length x (y ∷ ys) (inr i) = ap suc (without_length x ys i)
+  without_length x [] i = elim i [ ]
 
   -- another element stays
   without_other : (x : A) (ys : List A) (i : In x ys) (z : A) → (z ≡ x → ⊥) → In z ys → In z (without x ys i)
@@ -44,6 +46,7 @@ module _ {A : Type 0} where
   without_other x (y ∷ ys) (inl e) z h (inr k) = k
   without_other x (y ∷ ys) (inr i) z h (inl k) = inl k
   without_other x (y ∷ ys) (inr i) z h (inr k) = inr (without_other x ys i z h k)
+  without_other x [] i z h _ = elim i [ ]
 
   -- no element stands twice
   abbrev pub Apart : List A → Type 0
@@ -61,6 +64,7 @@ module _ {A : Type 0} where
 place_of : (ps : List Point) (q : Point) → In q ps → (i : ℕ) × (i < length ps) × (point_at ps i ≡ q)
 place_of (p ∷ ps) q (inl e) = (0, omega arith, sym e)
 place_of (p ∷ ps) q (inr k) = let r = place_of ps q k in (suc r.0, suc-le-suc r.1, r.2)
+place_of [] q x' = elim x' [ ]
 
 apart_places : (ps : List Point) → ((u v : ℕ) → u < length ps → v < length ps → point_at ps u ≡ point_at ps v → u ≡ v) → Apart ps
 apart_places [] h = tt

@@ -1,5 +1,7 @@
 // The ends of a link filed by the segments that they split. An end's number is twice its link's, and
 // one more for the second end.
+#![tactic(auto)]
+
 ghost use Rattle.std.specs.Prelude.{◌≡◌, ◌<◌};
 ghost use Rattle.limits.specs.Limits.{most_splits, most_links};
 ghost use Rattle.grid.specs.Grid.{place_of, place_at};

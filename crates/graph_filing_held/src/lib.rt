@@ -1,5 +1,6 @@
-// The drawing's links, which it holds in an array, lent to `file_lent` as a slice. Its parameters hold no reference to a
-// struct, so whoever calls it needs no proof by hand.
+// The drawing's links, which it holds in an array, lent to `file_lent` as a slice.
+#![tactic(auto)]
+
 ghost use Rattle.std.specs.Prelude.{◌≡◌, ◌≤◌};
 ghost use Rattle.limits.specs.Limits.{most_links};
 ghost use Rattle.graph_filing.specs.Stored.{store, store_links, LinksFit};

@@ -1,5 +1,6 @@
-// The ends of links that are lent as a slice of structs. The borrow checker covers no function that has such a slice: this
-// one takes each link out by value and hands it to a covered function, and is proved by hand.
+// The ends of links that are lent as a slice of structs: each link is taken out by value and handed to `graph_filing`.
+#![tactic(auto)]
+
 ghost use Rattle.std.specs.Prelude.{◌≡◌, ◌≤◌, length};
 ghost use Rattle.limits.specs.Limits.{most_links};
 ghost use Rattle.graph_filing.specs.Stored.{store, store_links, LinksFit};

@@ -1,4 +1,6 @@
 // A line traced, segment by segment.
+#![tactic(auto)]
+
 ghost use Rattle.std.specs.Prelude.{◌≡◌, ◌≤◌};
 ghost use Rattle.limits.specs.Limits.{most_points};
 ghost use Rattle.graph_splits.specs.Next.{at};

@@ -1,4 +1,6 @@
 // All lines of a drawing traced, and then its links.
+#![tactic(auto)]
+
 ghost use Rattle.std.specs.Prelude.{◌≡◌, ◌≤◌};
 ghost use Rattle.limits.specs.Limits.{most_links, most_lines};
 ghost use Rattle.graph_splits.specs.Points.{points, MeasurablePoints};

@@ -1,6 +1,8 @@
 // The nodes of a graph, numbered by first use, in flat arrays: `xs` and `ys` have each node's
 // coordinates as places on the grid. `buckets` has the newest node of each hash of coordinates, and
 // `next` has for each node the next older one of its hash; MOST_NODES is none.
+#![tactic(auto)]
+
 ghost use Rattle.std.specs.Prelude.{◌≡◌, Bool, true, false, ◌<◌, ◌≤◌};
 ghost use Rattle.limits.specs.Limits.{most_nodes};
 ghost use Rattle.graph_nodes.specs.Table.{table, bucket_count, hash_of, is_at, seek, inserted, HasRoom, number_in, table_with, count_with};
@@ -118,7 +120,8 @@ pub fn count_with(n: usize, number: usize) -> usize
     requires { n ≤ most_nodes }
     ensures { result ≡ count_with n number }
 {
-    if number == n {
+    let new = number == n;
+    if new {
         return n + 1;
     }
     n

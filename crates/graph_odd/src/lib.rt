@@ -1,4 +1,6 @@
 // The odd nodes of a graph: degrees counted in one pass over the edges, then the odd ones listed.
+#![tactic(auto)]
+
 ghost use Rattle.std.specs.Prelude.{◌≡◌, ◌+◌, get_or, replicate};
 ghost use Rattle.limits.specs.Limits.{most_nodes, edge_room};
 ghost use Rattle.graph_spec.specs.Odd.{odd_nodes};
@@ -63,7 +65,8 @@ pub fn odd_nodes(
     let mut count: usize = 0;
     let mut v: usize = 0;
     while v < n {
-        if degrees[v] % 2 == 1 {
+        let odd_degree = degrees[v] % 2 == 1;
+        if odd_degree {
             odd[count] = v as u16;
             count += 1;
         }

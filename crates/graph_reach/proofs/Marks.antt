@@ -144,6 +144,7 @@ grown_all (w ∷ ws) s a t = grown_on s (marking w s) (mark_all ws (marking w s)
 -- each of them is marked then
 pub all_marks : (ws : List ℕ) (s : Marks) → Nodes ws → Tidy s → (w : ℕ) → In w ws → Marked (mark_all ws s) w
 unfolding mark_all
+all_marks [] s a t w x3 = elim x3 [ ]
 all_marks (x ∷ ws) s a t w (inl e) =
     let u = tidy_marking s t x a.0 in
     (grown_all ws (marking x s) a.1 u).keeps w (subst (λ (z : ℕ). Marked (marking x s) z) (sym e) (marking_marks s t x a.0))

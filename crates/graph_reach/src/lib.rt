@@ -1,5 +1,7 @@
 // Check 9: whether every node can be reached from node 0. Nodes are marked and wait in a queue; each is
 // looked at once, and so is each of its edges.
+#![tactic(auto)]
+
 ghost use Rattle.std.specs.Prelude.{◌≡◌, ◌<◌, ◌≤◌};
 ghost use Rattle.limits.specs.Limits.{most_nodes};
 ghost use Rattle.graph_spec.specs.Reach.{all_reached};

@@ -74,7 +74,7 @@ module _ (a b l : Point) where
   stay p ps h =
       let parts = both (not (same p a) && not (same p b)) (not (same p l)) h in
       ap (λ (s : Bool). changes l (elim s [ true ↦ p ∷ inner a b ps | false ↦ inner a b ps ])) parts.0
-      ∙ ap (λ (t : Bool). elim t [ true ↦ changes l (inner a b ps) | false ↦ p ∷ changes p (inner a b ps) ]) (not_true (same p l) parts.1)
+      ∙ ap (λ (t : Bool). elim t [ true ↦ changes l (inner a b ps) | false ↦ p ∷ changes p (inner a b ps) ]) (not-true (same p l) parts.1)
 
   pub gone : (p : Point) (ps : List Point) → keeps a b l p ≡ false → changes l (inner a b (p ∷ ps)) ≡ changes l (inner a b ps)
   unfolding keeps inner changes

@@ -1,4 +1,6 @@
 // A stroke of a drawing, from one point to another: its edge, unless the two are one point.
+#![tactic(auto)]
+
 ghost use Rattle.std.specs.Prelude.{◌≡◌, ◌<◌};
 ghost use Rattle.limits.specs.Limits.{most_nodes, edge_room};
 ghost use Rattle.graph_splits.specs.Next.{at};
@@ -41,7 +43,7 @@ pub fn draw(
 }
 
 // How many nodes and edges there are, and the node last come to.
-#[derive(Drop)]
+#[derive(Clone, Copy)]
 pub struct Trail {
     pub nodes: usize,
     pub edges: usize,

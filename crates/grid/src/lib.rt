@@ -1,9 +1,11 @@
 // Coordinates: from the 64 bits that a file holds to a place on the grid, and back.
+#![tactic(auto)]
+
 ghost use Rattle.std.specs.Prelude.{◌≡◌};
 ghost use Rattle.grid.specs.Grid.{read_place, place_at, on_grid, clean, coordinate, write_place};
 
 // Where a coordinate lies: so many grid steps from -4,096, or not on the grid.
-#[derive(Drop)]
+#[derive(Clone, Copy)]
 pub enum Place {
     On(u32),
     Off,
@@ -58,7 +60,8 @@ pub fn read_place(bits: u64) -> Place
         return Place::Off;
     }
     let count = steps as u32;
-    if bits < SIGN {
+    let positive = bits < SIGN;
+    if positive {
         Place::On(ORIGIN + count)
     } else {
         Place::On(ORIGIN - count)
@@ -89,14 +92,16 @@ pub fn place_number(place: Place) -> u32
 pub fn clean(bits: u64) -> u64
     ensures { result ≡ clean bits }
 {
-    if bits == SIGN { 0 } else { bits }
+    let minus_zero = bits == SIGN;
+    if minus_zero { 0 } else { bits }
 }
 
 // The coordinate at a place. Every u32 is far below 2^53, so nothing is rounded.
 pub fn coordinate(place: u32) -> f64
     ensures { result ≡ coordinate place }
 {
-    if place < ORIGIN {
+    let left = place < ORIGIN;
+    if left {
         (ORIGIN - place) as f64 / -1024.0
     } else {
         (place - ORIGIN) as f64 / 1024.0

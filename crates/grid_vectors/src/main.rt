@@ -1,9 +1,12 @@
 // Replays tools/grid_vectors.py's patterns against `grid`: each is read, and where it is on the grid
 // its place is written back, which gives the pattern, with plain zero for minus zero. It prints how
 // many there were and how many came out otherwise.
+#![tactic(auto)]
+
 ghost use Rattle.std.specs.Prelude.{◌+◌, ◌≤◌, length};
 
 use grid::Place;
+use std::io;
 
 // A line of the file: a kind, a blank, 16 hex digits, a blank, 8 hex digits, a line feed.
 const LINE: usize = 28;
@@ -64,13 +67,14 @@ fn count_wrong(s: &[u8]) -> u64 {
     found
 }
 
-fn main() {
+fn main(rt: HostRuntime) -> io::Result<()> {
     let mut buf = [0u8; 262144];
-    let n = test_data::load(b"vectors", &mut buf);
+    let n = test_data::load(&rt, "vectors", &mut buf);
     test_data::report(
+        &rt,
         b"grid",
         (n / LINE) as u64,
         b"vectors",
         count_wrong(&buf[..n]),
-    );
+    )
 }

@@ -1,6 +1,10 @@
 // Runs the root vectors of data/vectors, which tools/length_vectors.py writes: 16 bytes each, a number of squared grid steps and the bits of its
 // length, little-endian. Prints how many there are, and how many lengths are other than these bits.
+#![tactic(auto)]
+
 ghost use Rattle.std.specs.Prelude.{◌≤◌};
+
+use std::io;
 
 // The bits of a length, which is no NaN.
 fn bits(n: u64) -> u64 {
@@ -28,8 +32,14 @@ fn misses(s: &[u8]) -> u64 {
     wrong
 }
 
-fn main() {
+fn main(rt: HostRuntime) -> io::Result<()> {
     let mut buf = [0u8; 131072];
-    let n = test_data::load(b"vectors", &mut buf);
-    test_data::report(b"length", (n / 16) as u64, b"vectors", misses(&buf[..n]));
+    let n = test_data::load(&rt, "vectors", &mut buf);
+    test_data::report(
+        &rt,
+        b"length",
+        (n / 16) as u64,
+        b"vectors",
+        misses(&buf[..n]),
+    )
 }

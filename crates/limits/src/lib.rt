@@ -1,5 +1,7 @@
 // The limits and the refusals of document 01, for the code. specs/Limits.antt has them for the definitions;
 // `layout_tied`, `limits_tied` and `refusals_tied` tie the two together.
+#![tactic(auto)]
+
 ghost use Rattle.std.specs.Prelude.{◌≡◌};
 ghost use Rattle.limits.specs.Tied.{layout_is, limits_are, refusals_are};
 
@@ -101,7 +103,7 @@ pub const REFUSED_OWN_LINKS: u8 = 15;
 // The writer's: a destination that is too short for the file.
 pub const REFUSED_DESTINATION: u8 = 16;
 
-#[derive(Drop)]
+#[derive(Clone, Copy)]
 pub struct Layout {
     pub settings: u16,
     pub line: u16,
@@ -129,7 +131,7 @@ pub fn layout_tied() -> Layout
     }
 }
 
-#[derive(Drop)]
+#[derive(Clone, Copy)]
 pub struct Limits {
     pub bytes: usize,
     pub side: u32,
@@ -173,7 +175,7 @@ pub fn limits_tied() -> Limits
     }
 }
 
-#[derive(Drop)]
+#[derive(Clone, Copy)]
 pub struct Refusals {
     pub bytes: u8,
     pub cut: u8,

@@ -1,4 +1,6 @@
 // The links of the drawing that is planned, for comparison and timing in other languages: of a file with flag 4 they are those that are made.
+#![tactic(auto)]
+
 ghost use Rattle.std.specs.Prelude.{◌≡◌};
 ghost use Rattle.file_drawing.specs.Back.{drawing_from};
 ghost use Rattle.links_spec.specs.Made.{to_plan};
@@ -11,7 +13,7 @@ use file_drawing::Drawing;
 
 // The number of a refusal and zeros; or 0 with the number of links, and of one of them both ends: line, segment and place. Zeros where there is no such link.
 #[repr(C)]
-#[derive(Drop)]
+#[derive(Clone, Copy)]
 pub struct MadeLink {
     pub refusal: u32,
     pub links: u32,

@@ -1,5 +1,7 @@
 // The links that are made for a drawing in flat arrays: the ends of its lines are taken out, `links_tree` chooses among the candidates,
 // and each that is chosen is written as a link.
+#![tactic(auto)]
+
 ghost use Rattle.std.specs.Prelude.{◌≡◌, map, ◌<◌, ◌≤◌, length, take, replicate};
 ghost use Rattle.std.proofs.lemmas.List.Edits.{sets};
 ghost use Rattle.limits.specs.Limits.{most_lines, most_links};
@@ -133,7 +135,7 @@ fn write_links(
 }
 
 // The links made, and how many they are.
-#[derive(Drop)]
+#[derive(Clone, Copy)]
 pub struct Made {
     pub count: usize,
     pub links: [MstEdge; MOST_LINKS],

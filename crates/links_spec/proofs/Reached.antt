@@ -132,6 +132,7 @@ module _ (R : Point → Point → Type 0) (T : Tied R) where
 
       link_tied : (cs : List Candidate) → Drawn (link_strokes (map (as_link all) cs)) → (k : Candidate) → In k cs → R (low_point all k) (high_point all k)
       unfolding link_strokes as_link
+      link_tied [] h k x'' = elim x'' [ ]
       link_tied (j ∷ cs) h k (inl e) = rw e (pieces_tied (low_point all j) (high_point all j ∷ []) (all_left (pieces (low_point all j) (high_point all j ∷ [])) (link_strokes (map (as_link all) cs)) h)).0
       link_tied (j ∷ cs) h k (inr i) = link_tied cs (all_right (pieces (low_point all j) (high_point all j ∷ [])) (link_strokes (map (as_link all) cs)) h) k i
 

@@ -24,6 +24,7 @@ module _ {A : Type 0} where
   pub in_left : (x : A) (xs ys : List A) → In x xs → In x (xs ++ ys)
   in_left x (y ∷ xs) ys (inl e) = inl e
   in_left x (y ∷ xs) ys (inr i) = inr (in_left x xs ys i)
+  in_left x [] ys x'' = elim x'' [ ]
 
   pub in_right : (x : A) (xs ys : List A) → In x ys → In x (xs ++ ys)
   in_right x [] ys i = i
@@ -40,6 +41,7 @@ module _ {A : Type 0} where
     pub all_in : (xs : List A) → All P xs → (x : A) → In x xs → P x
     all_in (y ∷ xs) a x (inl e) = subst P (sym e) a.0
     all_in (y ∷ xs) a x (inr i) = all_in xs a.1 x i
+    all_in [] a x x4 = elim x4 [ ]
 
     pub in_all : (xs : List A) → ((x : A) → In x xs → P x) → All P xs
     in_all [] h = tt
@@ -87,10 +89,12 @@ all_imp P Q f (x ∷ xs) a = (f x a.0, all_imp P Q f xs a.1)
 pub in_map : {A B : Type 0} (f : A → B) (x : A) (xs : List A) → In x xs → In (f x) (map f xs)
 in_map f x (y ∷ xs) (inl e) = inl (ap f e)
 in_map f x (y ∷ xs) (inr i) = inr (in_map f x xs i)
+in_map {A = A} {B = B} f x [] x'' = elim x'' [ ]
 
 pub of_map : {A B : Type 0} (f : A → B) (y : B) (xs : List A) → In y (map f xs) → (x : A) × In x xs × (f x ≡ y)
 of_map f y (x ∷ xs) (inl e) = (x, inl refl, sym e)
 of_map f y (x ∷ xs) (inr i) = let r = of_map f y xs i in (r.0, inr r.1, r.2)
+of_map {A = A} {B = B} f y [] x' = elim x' [ ]
 
 pub all_map : {A B : Type 0} (f : A → B) (P : B → Type 0) (xs : List A) → All (λ (x : A). P (f x)) xs → All P (map f xs)
 all_map f P [] a = tt

@@ -1,5 +1,7 @@
 // A number put into bytes, the lowest first: for the line's record and for a file's. A crate of its own, so that the writer of files
 // needs nothing of the planner.
+#![tactic(auto)]
+
 ghost use Rattle.std.specs.Prelude.{◌≡◌, ◌+◌, ◌≤◌, length};
 ghost use Rattle.std.proofs.lemmas.List.Edits.{sets};
 ghost use Rattle.drawing_spec.specs.Bytes.{bytes};

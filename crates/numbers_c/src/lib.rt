@@ -1,4 +1,6 @@
 // The numbers for a program in another language, which can then hold them against its own.
+#![tactic(auto)]
+
 ghost use Rattle.std.specs.Prelude.{◌≡◌, ◌<◌};
 ghost use Rattle.std.specs.Float.{binary64};
 ghost use Rattle.grid.specs.Grid.{grid_exponent, read_place, write_place, place_at};

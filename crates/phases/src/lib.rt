@@ -1,5 +1,7 @@
 // What each phase of the planner makes of a graph that stands in arrays, for timing (crates/phases_c): told by two counts
 // and a length, so that no phase's work can be left out.
+#![tactic(auto)]
+
 ghost use Rattle.std.specs.Prelude.{◌≡◌, ◌<◌, ◌≤◌, length};
 ghost use Rattle.std.specs.Float.{binary64};
 ghost use Rattle.std.specs.Float.Ieee.{add};
@@ -34,7 +36,7 @@ pub const REPAIR: u32 = 5;
 
 // The number of a refusal and zeros; or 0 with two counts and a length of what the last phase made.
 #[repr(C)]
-#[derive(Drop)]
+#[derive(Clone, Copy)]
 pub struct Phase {
     pub refusal: u32,
     pub first: usize,

@@ -1,6 +1,8 @@
 // The planner up to the end of one of its phases, for timing in other languages: the time of a phase is what a call up to
 // its end takes more than one up to the phase before. All phases are in one function, as in `plan`, so that what a phase
 // makes is there for the next one and nothing of it is left out where a call stops early.
+#![tactic(auto)]
+
 ghost use Rattle.std.specs.Prelude.{◌≡◌, length, replicate};
 ghost use Rattle.file_records.specs.Meaning.{settings_of};
 ghost use Rattle.file_drawing.specs.Back.{drawing_from};
@@ -49,7 +51,8 @@ fn phase_of_graph(
     if last == ODD {
         return phases::end_of_odd(ends, weights, next, heads, n, m);
     }
-    if last < REPAIR {
+    let before_repair = last < REPAIR;
+    if before_repair {
         return phases::end_of_pairs(
             xs, ys, ends, weights, next, heads, n, m, settings, floats, bytes, last,
         );

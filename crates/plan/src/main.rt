@@ -1,5 +1,7 @@
 // Reads a drawing file on standard input and prints its plan, with tables for 12 odd nodes and an output for
 // 4,001 points.
+#![tactic(auto)]
+
 use planner_text::TEXT_ROOM;
 
 // A file of more than 65,536 bytes is refused, so that one byte more is enough of it.

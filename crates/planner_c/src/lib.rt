@@ -1,4 +1,6 @@
 // The planner for programs in other languages; `save` is the writer for them.
+#![tactic(auto)]
+
 pub mod save;
 
 ghost use Rattle.std.specs.Prelude.{◌≡◌};
@@ -12,7 +14,7 @@ use planner_graph::Answer;
 // The number of a refusal and zeros; or 0 with the retrace's length, the odd nodes before and after, and the
 // points of the line.
 #[repr(C)]
-#[derive(Drop)]
+#[derive(Clone, Copy)]
 pub struct Outcome {
     pub refusal: u32,
     pub retrace: f64,
@@ -23,7 +25,7 @@ pub struct Outcome {
 
 // The number of a refusal and 0; or 0 and how many bytes the file has.
 #[repr(C)]
-#[derive(Drop)]
+#[derive(Clone, Copy)]
 pub struct Saved {
     pub refusal: u32,
     pub bytes: usize,

@@ -1,4 +1,6 @@
 // The plan of a graph that stands in arrays: check 9, repair with checks 11 to 13, and the line with check 14.
+#![tactic(auto)]
+
 ghost use Rattle.std.specs.Prelude.{◌≡◌};
 ghost use Rattle.file_records.specs.Meaning.{settings_of};
 ghost use Rattle.graph_adjacency.specs.Lists.{adjacency};
@@ -14,7 +16,7 @@ use planner_output::Emitted;
 use repair::Parity;
 
 // The number of a refusal; or the retrace's length, the odd nodes before and after, and the points of the line.
-#[derive(Drop)]
+#[derive(Clone, Copy)]
 pub enum Answer {
     Refused(u8),
     Planned(f64, usize, usize, usize),
@@ -41,7 +43,8 @@ pub fn plan_graph(
     ensures retrace { RetraceNonneg result }
 {
     let reached = graph_reach::all_reached(ends, weights, next, heads, n, m);
-    if !reached {
+    let apart = !reached;
+    if apart {
         return Answer::Refused(REFUSED_APART);
     }
     let repair = repair::fix_parity(

@@ -1,4 +1,6 @@
 // The line through the repaired graph, written into the output: the last step of a plan, with check 14.
+#![tactic(auto)]
+
 ghost use Rattle.std.specs.Prelude.{◌≡◌, ◌≤◌};
 ghost use Rattle.limits.specs.Limits.{most_side};
 ghost use Rattle.file_records.specs.Meaning.{settings_of};
@@ -11,7 +13,7 @@ use file_records::Settings;
 use limits::{ARC_ROOM, EDGE_ROOM, LINE_ROOM, MOST_NODES};
 
 // How many points the line has; `Short` where the output has no room for them.
-#[derive(Drop)]
+#[derive(Clone, Copy)]
 pub enum Emitted {
     Points(usize),
     Short,

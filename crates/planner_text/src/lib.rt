@@ -1,5 +1,7 @@
 // What the program `plan` prints, made as one text, so that it is written by one call: number by number, the calls took longer than
 // the plan. A crate of its own, since it is the programs' alone: `save` prints a refusal as `plan` does.
+#![tactic(auto)]
+
 ghost use Rattle.std.specs.Prelude.{◌≡◌, ◌∷◌, [], ◌++◌, ◌+◌, ◌*◌, ◌≤◌, length, drop};
 ghost use Rattle.std.specs.Float.{binary64};
 ghost use Rattle.std.specs.Float.Ieee.{to_bits};
@@ -153,7 +155,7 @@ fn bits_of(x: f64) -> u64
 }
 
 // What `plan` prints of an answer and of the output that goes with it, at the front of the text, whose later bytes keep their value.
-// Returns how many bytes it has; that they are a part of the text (`Counts`) is what `&text[..k]` asks.
+// Returns how many bytes it has; that they are a part of the text (`IsPrefixLen`) is what `&text[..k]` asks.
 pub fn text_of(answer: Answer, output: &[u8], text: &mut [u8]) -> usize
     requires room { text_room ≤ length text.old }
     requires answer { Printable answer output.now }

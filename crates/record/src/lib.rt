@@ -1,5 +1,7 @@
 // The line written as a record of kind 4: a 4-byte body length, a 2-byte kind, then 16 bytes for each point,
 // every number with its lowest byte first.
+#![tactic(auto)]
+
 ghost use Rattle.std.specs.Prelude.{◌≡◌, ◌+◌, ◌*◌, ◌≤◌, ◌<◌, length};
 ghost use Rattle.std.proofs.lemmas.List.Edits.{sets};
 ghost use Rattle.planner_spec.specs.LineRecord.{line_record};

@@ -1,5 +1,7 @@
 // The pairs of more odd nodes than Optimal tries all pairings of: Greedy's, or those that are nearest by graph distance,
 // whichever cost less by graph distance. The distances between the nodes stand in the lent table, row by row.
+#![tactic(auto)]
+
 ghost use Rattle.std.specs.Prelude.{◌≡◌, true, ◌+◌, ◌*◌, ◌<◌, ◌≤◌, length, take, replicate, ltb};
 ghost use Rattle.limits.specs.Limits.{most_nodes};
 ghost use Rattle.graph_spec.specs.Odd.{odd_nodes};
@@ -129,7 +131,8 @@ fn choose_pairs(
     let greedy = euclidean_pairs(xs, ys, n, odd, count, firsts, seconds);
     let paid = pairs_cost(table, &places, count, firsts, seconds, greedy);
     let asked = pairs_cost(table, &places, count, &lefts, &rights, near);
-    if paid <= asked {
+    let no_dearer = paid <= asked;
+    if no_dearer {
         return greedy;
     }
     *firsts = lefts;

@@ -1,4 +1,6 @@
 // The retraces of the pairs, and then of the two nodes that they leave odd, where the line is to be closed.
+#![tactic(auto)]
+
 ghost use Rattle.std.specs.Prelude.{◌≡◌, true, false, ◌≤◌};
 ghost use Rattle.limits.specs.Limits.{most_edges, most_pairs};
 ghost use Rattle.graph_adjacency.specs.Lists.{adjacency};
@@ -34,12 +36,14 @@ fn close(
     requires edges_held { EdgesHeld n m (adjacency ends.old weights.old next.old heads.old) }
     ensures { Answers n (close_if closing most number n (repaired (so_far (edges_in m (adjacency ends.old weights.old next.old heads.old)) sum))) result (adjacency ends.new weights.new next.new heads.new) }
 {
-    if !closing {
+    let open = !closing;
+    if open {
         return Applied::Laid(sum, m);
     }
     let mut odd = [0u16; MOST_NODES];
     let count = graph_odd::odd_nodes(ends, weights, next, heads, n, m, &mut odd);
-    if count != 2 {
+    let no_pair = count != 2;
+    if no_pair {
         return Applied::Laid(sum, m);
     }
     let from = widen::wide(odd[0]);

@@ -1,4 +1,6 @@
 // The copies that a retrace lays along its path, in the edges of a graph in flat arrays (crates/graph_adjacency).
+#![tactic(auto)]
+
 ghost use Rattle.std.specs.Prelude.{◌≡◌, ℕ, ◌+◌, ◌<◌, ◌≤◌, length, get_or, drop};
 ghost use Rattle.std.specs.Float.{nan};
 ghost use Rattle.limits.specs.Limits.{most_nodes, edge_room};

@@ -2,6 +2,8 @@
 // distances to the odd nodes. They stand in the table of floats from `base` on, row by row. The least distances are found by
 // sweeps (crates/repair_sweep); from the first row on where these do not come to their end, by Dijkstra's algorithm
 // (crates/repair_search), since a graph that is hard to sweep from one node is so from the others.
+#![tactic(auto)]
+
 ghost use Rattle.std.specs.Prelude.{◌≡◌, true, ◌+◌, ◌*◌, ◌^◌, ◌<◌, ◌≤◌, length};
 ghost use Rattle.limits.specs.Limits.{most_nodes};
 ghost use Rattle.graph_adjacency.specs.Lists.{adjacency};
@@ -209,7 +211,8 @@ pub fn fill_rows(
     ensures { Rows n (edges_in m (adjacency ends.now weights.now next.now heads.now)) odd.now count base count table.new }
 {
     let first = sweep_rows(ends, weights, next, heads, n, m, odd, count, table, base);
-    if first < count {
+    let rows_left = first < count;
+    if rows_left {
         search_rows(
             ends, weights, next, heads, n, m, odd, count, table, base, first,
         );

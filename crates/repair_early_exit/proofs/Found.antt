@@ -42,6 +42,7 @@ Finds ds c rs p = (r : Arc) × In r rs × (p ≡ to r.to) × (on_way_back (dista
 step_finds : (ds : List Float) (c : Float) (visited : List ℕ) (rs : List Arc) (a : Arc) → In a rs → member a.to visited ≡ false
     → on_way_back (distance_at ds a.to) a.weight c ≡ true → Finds ds c rs (step_back ds c visited rs)
 unfolding step_back
+step_finds ds c visited [] a i m b = elim i [ ]
 step_finds ds c visited (r ∷ rs) a i m b =
     go (member r.to visited) (on_way_back (distance_at ds r.to) r.weight c) refl refl i (λ k. step_finds ds c visited rs a k m b)
   where

@@ -2,6 +2,8 @@
 // (Greedy), or the bits of an f64 in a table of distances between the nodes, which are in the order of the floats.
 // Row i of the list has the places after i, and `lows` has a lower bound of the costs in each row. A round finds the
 // least cost first, and then looks only at the rows whose bound does not rule them out.
+#![tactic(auto)]
+
 ghost use Rattle.std.specs.Prelude.{◌≡◌, true, ◌+◌, ◌-◌, ◌^◌, ◌<◌, ◌≤◌, ◌*◌, length, get_or, take, drop, set, ltb};
 ghost use Rattle.std.specs.Float.{nan, binary64};
 ghost use Rattle.sums.specs.Key.{Nonneg};
@@ -19,7 +21,7 @@ ghost use Rattle.repair_greedy.specs.Rounds.{Round, Paired};
 use limits::{MOST_NODES, MOST_PAIRS};
 
 // Two places of the working list, and their cost.
-#[derive(Drop)]
+#[derive(Clone, Copy)]
 struct Nearest {
     from: usize,
     to: usize,
@@ -125,7 +127,7 @@ fn with_row(
 }
 
 // A row, and its bound.
-#[derive(Drop)]
+#[derive(Clone, Copy)]
 struct Low {
     at: usize,
     low: u64,

@@ -1,5 +1,7 @@
 // Which odd nodes repair joins by retraces: the pairs of Greedy or of Optimal, and the refusal of Optimal's
 // tables. What the lent tables hold afterwards is left open: whoever lent them clears them once, at the end.
+#![tactic(auto)]
+
 ghost use Rattle.std.specs.Prelude.{◌≡◌, ◌<◌, ◌≤◌, length};
 ghost use Rattle.limits.specs.Limits.{most_nodes};
 ghost use Rattle.file_records.specs.Meaning.{settings_of};
@@ -40,11 +42,13 @@ fn optimal_refusal(settings: Settings, n: usize, floats: usize, bytes: usize) ->
     if n < 4 {
         return 0;
     }
-    if MOST_ODD < n {
+    let busy = MOST_ODD < n;
+    if busy {
         return short_of(n * n, floats);
     }
     let states = repair_table::power(n);
-    if floats < states + n * n {
+    let too_few_floats = floats < states + n * n;
+    if too_few_floats {
         return REFUSED_TABLES;
     }
     if bytes < states {
@@ -110,7 +114,8 @@ fn pairs_of(
     if settings.pairing != OPTIMAL {
         return repair_greedy::greedy_pairs(xs, ys, n, odd, count, firsts, seconds);
     }
-    if MOST_ODD < count {
+    let busy = MOST_ODD < count;
+    if busy {
         return repair_busy::busy_pairs(
             xs, ys, ends, weights, next, heads, n, m, odd, count, floats, firsts, seconds,
         );
@@ -120,7 +125,7 @@ fn pairs_of(
     )
 }
 
-#[derive(Drop)]
+#[derive(Clone, Copy)]
 pub enum Pairs {
     // the number of odd nodes, and the number of pairs
     Found(usize, usize),

@@ -1,6 +1,8 @@
 // Retraces: for each pair of nodes a copy of each edge along a way between them, in the edges of a graph in flat
 // arrays (crates/graph_adjacency). It is the way back that fits the least distances within 1e-10, which the source calls
 // the shortest path.
+#![tactic(auto)]
+
 ghost use Rattle.std.specs.Prelude.{◌≡◌, [], ◌∷◌, ◌<◌, ◌≤◌, length};
 ghost use Rattle.limits.specs.Limits.{most_nodes, most_edges, most_pairs};
 ghost use Rattle.graph_adjacency.specs.Lists.{adjacency};
@@ -17,7 +19,7 @@ ghost use Rattle.repair_retrace.specs.Answer.{Answers};
 use limits::{ARC_ROOM, EDGE_ROOM, MOST_NODES, MOST_PAIRS, REFUSED_PATH};
 use repair_way_back::Way;
 
-#[derive(Drop)]
+#[derive(Clone, Copy)]
 pub enum Applied {
     // the sum with the copies' weights, and the number of edges with the copies
     Laid(f64, usize),
@@ -87,7 +89,8 @@ pub fn apply_pair(
         return Applied::Refused(REFUSED_PATH);
     };
     let count = m + (MOST_NODES - 1 - first);
-    if most < count {
+    let past_most = most < count;
+    if past_most {
         return Applied::Refused(number);
     }
     let total = repair_copies::lay_path(ends, weights, next, heads, n, m, &path, first, sum);

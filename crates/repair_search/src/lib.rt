@@ -2,6 +2,8 @@
 // Dijkstra's algorithm of 1959: of the nodes that are not yet done take a nearest, and see whether its edges
 // lead to a nearer way. A tournament (crates/repair_tournament) has the distance of each node that was reached and
 // is not done, and infinity for every other.
+#![tactic(auto)]
+
 ghost use Rattle.std.specs.Prelude.{◌≡◌, ◌<◌, ◌≤◌, length};
 ghost use Rattle.std.specs.Float.{binary64};
 ghost use Rattle.limits.specs.Limits.{most_nodes};
@@ -154,7 +156,8 @@ pub fn search_from(
     while 0 < left {
         let d = tree[1];
         let limit = distance_of(dist, goal);
-        if !(d < limit) {
+        let nearer = d < limit;
+        if !nearer {
             break;
         }
         let last = last_listed(dist, touched, n, count, s);

@@ -35,7 +35,7 @@ use Rattle.repair_spec.proofs.NoDearer.{cost_nonneg}
 use Rattle.repair_spec.proofs.Repaired.{odd_below}
 use Rattle.repair_spec.proofs.Tried.{tried_is, tried_least, CostNonneg, tried, with_partner, match_tried, left_out, left_outs, two_tried, lefts_all}
 use Rattle.repair_spec.proofs.Without.{in_count, count_in, without_count, without_length, without_all, without_in}
-use Rattle.repair_spec.proofs.Choices.{leaves_counts, counts_leave, Rises, LowerFirst, rising_rises, rising_lower, rising_count, Both, rising_both, rising_first, cost_first, cost_same}
+use Rattle.repair_spec.proofs.Choices.{leaves_counts, counts_leave, Rises, LowerFirst, rising_rises, rising_lower, rising_count, Both, rising_both, rising_first, choice_has, cost_first, cost_same}
 
 -- ---- nodes in ascending order
 
@@ -110,8 +110,7 @@ module _ (d : ℕ → ℕ → Float) (nonneg : (u v : ℕ) → Nonneg binary64 (
     within : All (λ (v : ℕ). In v vs) (ends m.pairs)
 
   tallied_nonneg : (vs : List ℕ) (m : Matching) → Tallied vs m → CostNonneg m
-  unfolding choice_cost
-  tallied_nonneg vs m T = rw T.cost_is (sum_nonneg (reverse (rising m.pairs)))
+  tallied_nonneg vs m T = rw T.cost_is (choice_has (Nonneg binary64) d sum_nonneg m.pairs)
 
   empty_tallied : (vs : List ℕ) → Tallied vs (matching zero_length [])
   unfolding choice_cost rising cost_of add_pairs ends
@@ -195,6 +194,7 @@ module _ (d : ℕ → ℕ → Float) (nonneg : (u v : ℕ) → Nonneg binary64 (
   left_in k all u v (w ∷ rest) (inl p) =
       in_left (left_out k d all u v) (map (left_out k d all w) rest) (left_outs k d all rest) (subst (λ (x : ℕ). In (left_out k d all u v) (map (left_out k d all x) rest)) p.0 (in_map (left_out k d all u) v rest p.1))
   left_in k all u v (w ∷ rest) (inr f) = in_right (left_out k d all u v) (map (left_out k d all w) rest) (left_outs k d all rest) (left_in k all u v rest f)
+  left_in k all u v [] x' = elim x' [ ]
 
   lefts_tallied : (k : ℕ) (all : List ℕ) → Ascends all → All (Tallied all) (left_outs k d all all)
   lefts_tallied k all a = lefts_all k d (Tallied all) all all (λ u v _ _. left u v) (λ v. omega arith)

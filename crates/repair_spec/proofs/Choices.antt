@@ -17,7 +17,7 @@ use Rattle.graph_spec.proofs.Sums.{hit_same, hit_other, hit_cases}
 use Rattle.graph_spec.proofs.Occurs.{count}
 use Rattle.repair_spec.specs.Distance.{zero_length}
 use Rattle.repair_spec.specs.Pairing.{Pair, pair, ends, without, add_pairs, cost_of}
-use Rattle.repair_spec.specs.Cheapest.{NoneTwice, LeavesTwo, lower_first, insert, rising}
+use Rattle.repair_spec.specs.Cheapest.{NoneTwice, LeavesTwo, lower_first, insert, rising, choice_cost}
 use Rattle.repair_spec.proofs.Pairs.{AllButTwo}
 use Rattle.repair_spec.proofs.Without.{in_count, count_in, without_count, without_length, Among, stands, after_first}
 
@@ -201,6 +201,11 @@ module _ (d : ℕ → ℕ → Float) where
   pub cost_first : (p : Pair) (ps : List Pair) → cost_of d (reverse (p ∷ ps)) ≡ add binary64 (cost_of d (reverse ps)) (d p.from p.to)
   unfolding cost_of
   cost_first p ps = ap (cost_of d) (reverse-cons p ps) ∙ last_added (reverse ps) p zero_length
+
+-- what the cost of any pairs has, that of a choice has
+pub choice_has : (Q : Float → Type 0) (d : ℕ → ℕ → Float) → ((ps : List Pair) → Q (cost_of d ps)) → (ps : List Pair) → Q (choice_cost d ps)
+unfolding choice_cost
+choice_has Q d all ps = all (reverse (rising ps))
 
 -- distances that agree on the nodes of the pairs give one cost
 pub cost_same : (P : ℕ → Type 0) (e d : ℕ → ℕ → Float) → ((u v : ℕ) → P u → P v → e u v ≡ d u v) → (ps : List Pair) (x : Float) → All (Both P) ps → add_pairs e ps x ≡ add_pairs d ps x

@@ -100,6 +100,7 @@ weight_to_is v (r ∷ rs) q i h = go (eqb r.to v) refl i (λ k. weight_to_is v r
     go true e i rec = (r, inl refl, eqb-true r.to v e, refl)
     go false e (inl k) rec = absurd (eqb-false r.to v e (ap (λ (p : Arc). p.to) (sym k) ∙ h))
     go false e (inr k) rec = let p = rec k in (p.0, inr p.1, p.2, p.3)
+weight_to_is v [] q i h = elim i [ ]
 
 -- among a node's edges is one to each node that is joined with it
 arc_to : (es : List Edge) (u v : ℕ) → Joined es u v → (r : Arc) × In r (edges_at es u) × (r.to ≡ v)

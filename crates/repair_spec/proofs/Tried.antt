@@ -98,6 +98,7 @@ unfolding tried
 tried_takes most (n ∷ ms) c p a m (inl e) h =
     tried_keeps most ms (cheaper c n) (cheaper_is CostNonneg c n p a.0) a.1 (cheaper_takes most c n p a.0 (subst (λ (x : Matching). key binary64 x.cost ≤ most) e h))
 tried_takes most (n ∷ ms) c p a m (inr i) h = tried_takes most ms (cheaper c n) (cheaper_is CostNonneg c n p a.0) a.1 m i h
+tried_takes most [] c p a m x4 h = elim x4 [ ]
 
 -- where one that is tried costs at most `most` units, so does the one chosen; no cost is a NaN
 pub tried_least : (ms : List Matching) (c : Choice) → CostNonneg (choice_of c) → All CostNonneg ms → (m : Matching) → In m ms → (most : ℕ) → key binary64 m.cost ≤ most

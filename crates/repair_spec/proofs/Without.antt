@@ -19,6 +19,7 @@ pub in_count : (v : ℕ) (us : List ℕ) → In v us → 0 < count v us
 unfolding count
 in_count v (u ∷ us) (inl e) = omega (arith, hit_same u, ap (hit u) e)
 in_count v (u ∷ us) (inr i) = omega (arith, in_count v us i)
+in_count v [] x' = elim x' [ ]
 
 pub count_in : (v : ℕ) (us : List ℕ) → 0 < count v us → In v us
 unfolding count

@@ -3,6 +3,8 @@
 // its edges were last looked along; again, until no node is left that has. On most graphs a few sweeps are enough, and
 // each is a pass over plain arrays, which is several times faster than a tournament (crates/repair_search). On some many would
 // be needed: then the caller is told, and searches otherwise. Whoever finds them, the least distances are the same.
+#![tactic(auto)]
+
 ghost use Rattle.std.specs.Prelude.{◌≡◌, true, ◌<◌, ◌≤◌};
 ghost use Rattle.std.specs.Float.{binary64};
 ghost use Rattle.limits.specs.Limits.{most_nodes};
@@ -22,7 +24,7 @@ use limits::{ARC_ROOM, EDGE_ROOM, MOST_NODES};
 const MOST_SWEEPS: usize = 32;
 
 // How many nodes were reached, and whether the distances are the least.
-#[derive(Drop)]
+#[derive(Clone, Copy)]
 pub struct Swept {
     pub count: usize,
     pub settled: bool,
@@ -151,7 +153,10 @@ fn settled(
     let mut j: usize = 0;
     while j < count {
         let u = widen::wide(touched[j]);
-        if dist[u] < done[u] {
+        let reached = dist[u];
+        let looked = done[u];
+        let nearer = reached < looked;
+        if nearer {
             return false;
         }
         j += 1;

@@ -1,4 +1,6 @@
 // Optimal's pairs, by a table over sets of odd nodes.
+#![tactic(auto)]
+
 ghost use Rattle.std.specs.Prelude.{◌≡◌, ℕ, ◌+◌, ◌*◌, ◌^◌, ◌-◌, ◌%◌, ◌/◌, ◌<◌, ◌≤◌, length};
 ghost use Rattle.std.specs.Int.Count.{ones};
 ghost use Rattle.limits.specs.Limits.{most_odd};
@@ -29,7 +31,7 @@ pub fn row_of(n: usize, i: usize) -> usize
 }
 
 // The least cost so far, and what it is the cost of: a partner, or a mask.
-#[derive(Drop)]
+#[derive(Clone, Copy)]
 pub struct Least {
     pub cost: f64,
     pub at: usize,

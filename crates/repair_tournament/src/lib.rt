@@ -1,6 +1,8 @@
 // The least of n values that change, by a tournament: the value v stands at n + v, and each place j from 1
 // up to n - 1 has the lesser of what stands at 2 * j and 2 * j + 1. So place 1 has the least of all, and a
 // value that changes touches only the places on its way up, which halving gives.
+#![tactic(auto)]
+
 ghost use Rattle.std.specs.Prelude.{◌≡◌, Bool, true, false, ℕ, ◌<◌, ◌≤◌};
 ghost use Rattle.std.specs.Float.{binary64};
 ghost use Rattle.limits.specs.Limits.{most_nodes};
@@ -19,7 +21,8 @@ pub fn infinity() -> f64
 fn lesser(x: f64, y: f64) -> f64
     ensures { result ≡ lesser x y }
 {
-    if y < x { y } else { x }
+    let below = y < x;
+    if below { y } else { x }
 }
 
 fn differ(x: f64, y: f64) -> bool

@@ -1,5 +1,7 @@
 // The way back from a node to the start of a search, by the distances that the search found, in the edges
 // of a graph in flat arrays (crates/graph_adjacency).
+#![tactic(auto)]
+
 ghost use Rattle.std.specs.Prelude.{◌≡◌, [], ◌-◌, ◌<◌, ◌≤◌, length, get_or};
 ghost use Rattle.limits.specs.Limits.{most_nodes, edge_room, arc_room};
 ghost use Rattle.graph_adjacency.specs.Lists.{adjacency, edge_number};
@@ -47,7 +49,7 @@ fn fits(
 }
 
 // The way to the start.
-#[derive(Drop)]
+#[derive(Clone, Copy)]
 pub enum Way {
     // the place of its first node in `path`, which goes on to the end
     Found(usize),
@@ -83,7 +85,8 @@ pub fn way_back(
     'back: while last < at {
         at -= 1;
         path[at] = v as u16;
-        if v == s {
+        let arrived = v == s;
+        if arrived {
             return Way::Found(at);
         }
         seen[v] = true;

@@ -1,5 +1,7 @@
 // Reads a drawing file on standard input and writes what was read, saved again, to standard output. Where it is refused, the
 // number goes to standard error and nothing to standard output.
+#![tactic(auto)]
+
 use limits::{MOST_BYTES, MOST_FILE};
 use writer::Answer;
 

@@ -26,6 +26,7 @@ module _ {A : Type 0} (low high : A → ℕ) (before : A → A → Bool) (O : St
 
   cut : (e : A) → Leaves e → (c : ℕ → ℕ) (es : List A) → Groups is_vertex c → Within c (λ (u v : ℕ). part u ≡ part v)
       → Rising before es → All (Ends low high n is_vertex inside) es → ((x : A) → In x es → Leaves x → NotLater before e x) → In e es → In e (kept low high c es)
+  cut e l c mathlib.Core.List.[] P W r a h x6 = elim x6 [ ]
   cut e l c (k ∷ ks) P W r a h (inl q) = elim (step low high c k ks) [
     | inl s ↦ absurd (l (W (low e) (high e) (subst (λ (x : A). c (low x) ≡ c (high x)) (sym q) s.same)))
     | inr t ↦ rw t.more (inl q)

@@ -70,6 +70,7 @@ module _ {A : Type 0} (low high : A → ℕ) where
   ]
 
   groups_join : (c : ℕ → ℕ) (ks : List A) (k : A) → In k ks → groups c ks (low k) ≡ groups c ks (high k)
+  groups_join c [] k x' = elim x' [ ]
   groups_join c (j ∷ ks) k (inl e) = elim (step c j ks) [
     | inl s ↦ rw (s.after, e) (groups_keep c ks (low j) (high j) s.same)
     | inr t ↦ rw (t.after, e) (groups_keep (joined c j) ks (low j) (high j) (unite_same c (low j) (high j)))

@@ -1,4 +1,6 @@
 // The work tables that a caller lends: cleared once, at the end of the whole call.
+#![tactic(auto)]
+
 ghost use Rattle.std.specs.Prelude.{◌≡◌, length, replicate};
 ghost use Rattle.repair_spec.specs.Distance.{zero_length};
 

@@ -1,24 +1,44 @@
 // What the test programs share: the reading of their data, and the line that they print. A crate of its own, so that it is
 // proved once for all of them.
+#![tactic(auto)]
+
 ghost use Rattle.std.specs.Prelude.{◌<◌};
 ghost use Rattle.io.specs.Counts.{IsPrefixLen};
 
-use libc::STDOUT_FILENO;
+use std::fs::File;
+use std::io;
+use std::io::Read;
+use std::rt::Files;
 
 // No place in the data is past this.
 const FAR: usize = 1_000_000;
 
-// Reads a data file, as far as there is room. The answer is how many bytes were read, and 0 where there is no such file.
-pub fn load(path: &[u8], buf: &mut [u8]) -> usize
+// Reads a data file, as far as there is room. The answer is how many bytes were read, and 0 where there is no such file, of
+// which a line on standard error then tells.
+pub fn load(rt: &(impl Files + Eprint), path: &str, buf: &mut [u8]) -> usize
     ensures { IsPrefixLen result buf.new }
 {
-    let fd = os::open_read(path);
-    if fd < 0 {
-        os::fail(path);
+    match File::open(rt, path) {
+        Ok(mut file) => fill(&mut file, buf),
+        Err(error) => {
+            let _ = eprintln!(rt; "{path}: {error}");
+            0
+        }
     }
-    let n = io::read_full(fd, buf);
-    libc::close(fd);
-    n
+}
+
+// Reads until there is no more room, the data ends or a read fails. The answer is how many bytes were read.
+fn fill(reader: &mut impl Read, buf: &mut [u8]) -> usize
+    ensures { IsPrefixLen result buf.new }
+{
+    let mut filled = 0;
+    while filled < buf.len() {
+        match reader.read(&mut buf[filled..]) {
+            Ok(0) | Err(_) => break,
+            Ok(n) => filled += n,
+        }
+    }
+    filled
 }
 
 // The place that lies some bytes behind another.
@@ -96,13 +116,15 @@ pub fn hex(data: &[u8], at: usize, count: usize) -> u64 {
 }
 
 // Prints how many cases there were, and how many came out otherwise.
-pub fn report(name: &[u8], count: u64, cases: &[u8], wrong: u64) {
-    io::write_all(STDOUT_FILENO, name);
-    io::write_all(STDOUT_FILENO, b": ");
-    io::print_decimal(STDOUT_FILENO, count);
-    io::write_all(STDOUT_FILENO, b" ");
-    io::write_all(STDOUT_FILENO, cases);
-    io::write_all(STDOUT_FILENO, b", ");
-    io::print_decimal(STDOUT_FILENO, wrong);
-    io::write_all(STDOUT_FILENO, b" wrong\n");
+pub fn report(
+    rt: &impl Print,
+    name: &[u8],
+    count: u64,
+    cases: &[u8],
+    wrong: u64,
+) -> io::Result<()> {
+    rt.write_all(name)?;
+    print!(rt; ": {count} ")?;
+    rt.write_all(cases)?;
+    println!(rt; ", {wrong} wrong")
 }

@@ -1,5 +1,7 @@
 // Hierholzer's walk over the edges in flat arrays, in time linear in the edges: each node has a cursor, an
 // arc of its list before which every edge is used.
+#![tactic(auto)]
+
 ghost use Rattle.std.specs.Prelude.{◌≡◌, ◌<◌};
 ghost use Rattle.graph_adjacency.specs.Lists.{adjacency};
 ghost use Rattle.graph_arrays.specs.Arrays.{EdgesLinked, edges_in};
@@ -72,7 +74,8 @@ pub fn circuit(
         while 0 < k {
             let i = graph_adjacency::edge_number(k);
             let after = graph_adjacency::next_arc(next, heads, node, k);
-            if !walk_marks::is_used(&used, i) {
+            let unused = !walk_marks::is_used(&used, i);
+            if unused {
                 walk_marks::mark_used(&mut used, i);
                 cursors[node] = after as Cursor;
                 nodes[depth] = node as u16;

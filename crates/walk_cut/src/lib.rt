@@ -1,5 +1,7 @@
 // The circuit's nodes as a line: cut at the step by one edge, with the places from that step's end to the last
 // first and those from the second place to that step's start behind them.
+#![tactic(auto)]
+
 ghost use Rattle.std.specs.Prelude.{◌≡◌, ℕ, ◌+◌, ◌-◌, ◌<◌, ◌≤◌, length, take};
 ghost use Rattle.limits.specs.Limits.{edge_room, line_room};
 ghost use Rattle.graph_arrays.specs.NodeList.{NodeList};

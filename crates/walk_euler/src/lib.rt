@@ -1,4 +1,6 @@
 // The line through all edges from a start that is known.
+#![tactic(auto)]
+
 ghost use Rattle.std.specs.Prelude.{◌≡◌, ◌<◌, take};
 ghost use Rattle.limits.specs.Limits.{edge_room, line_room};
 ghost use Rattle.graph_adjacency.specs.Lists.{adjacency};

@@ -1,4 +1,6 @@
 // The marks of the edges that the walk has used: a bit for each edge, 64 in a word, the lowest bit first.
+#![tactic(auto)]
+
 ghost use Rattle.std.specs.Prelude.{◌≡◌, true, false, ◌<◌, length, get_or, set};
 ghost use Rattle.limits.specs.Limits.{edge_room};
 ghost use Rattle.walk_marks.specs.Marks.{words, marks_in};

@@ -1,4 +1,6 @@
 // The line turned so that it starts at its better end: reversed only where the last point is strictly better.
+#![tactic(auto)]
+
 ghost use Rattle.std.specs.Prelude.{◌≡◌, ◌≤◌, length};
 ghost use Rattle.limits.specs.Limits.{line_room, most_side};
 ghost use Rattle.file_records.specs.Meaning.{settings_of};
@@ -13,7 +15,7 @@ use limits::{LINE_ROOM, MOST_NODES};
 use walk_start::Point;
 
 // The first and the last point of a line; `Empty` where it has none.
-#[derive(Drop)]
+#[derive(Clone, Copy)]
 pub enum EndPoints {
     Ends(Point, Point),
     Empty,

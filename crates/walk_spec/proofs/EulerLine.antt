@@ -76,13 +76,13 @@ module _ (es : List Edge) where
   unfolding Left sum_over
   left_sum h u v [] used l left = sym (free_sum_none _ 0 es used (λ j k f. absurd (omega (arith, left j k, ap (λ (b : Bool). one (not b)) f))))
   left_sum h u v (s ∷ ss) used l left =
-      omega (arith, left_sum h s.to v ss (set used s.number true) l.1 later, free_sum_use (λ (i : ℕ) (e : Edge). h e) 0 es used s.number l.0.is_edge is_free)
+      omega (arith, left_sum h s.to v ss (set used s.number true) l.1 later, free_sum_use (λ (i : ℕ) (e : Edge). h e) 0 es used s.number l.0.is_edge is_free_lem)
     where
       at : hit s.number s.number + times s.number ss ≡ one (not (get_or used s.number true))
       at = left s.number l.0.is_edge
 
-      is_free : is_free used s.number
-      is_free = go (get_or used s.number true) refl
+      is_free_lem : is_free used s.number
+      is_free_lem = go (get_or used s.number true) refl
         where
           go : (b : Bool) → get_or used s.number true ≡ b → b ≡ false
           go false e = refl
@@ -93,7 +93,7 @@ module _ (es : List Edge) where
         where
           go : HitCases s.number i → times i ss ≡ one (not (get_or (set used s.number true) i true))
           go (inl p) =
-              rw (← p.0) (omega (arith, at, hit_same s.number, ap (λ (b : Bool). one (not b)) is_free, ap (λ (b : Bool). one (not b)) (used_set used s.number)))
+              rw (← p.0) (omega (arith, at, hit_same s.number, ap (λ (b : Bool). one (not b)) is_free_lem, ap (λ (b : Bool). one (not b)) (used_set used s.number)))
           go (inr p) = omega (arith, left i k, p.1, ap (λ (b : Bool). one (not b)) (get_or-set_other used s.number i true true (λ e. p.0 (sym e))))
 
   pub each_edge : (h : Edge → ℕ) (u v : ℕ) (ss : List Step) → Leads es u ss v → ((i : ℕ) → i < length es → times i ss ≡ 1) → edge_sum h ss ≡ sum_over h es

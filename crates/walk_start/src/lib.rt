@@ -1,4 +1,6 @@
 // The node at which the walk starts: of a list of nodes the one that lies best, first on ties.
+#![tactic(auto)]
+
 ghost use Rattle.std.specs.Prelude.{◌≡◌, ◌≤◌, ◌<◌, take};
 ghost use Rattle.limits.specs.Limits.{most_nodes, most_side};
 ghost use Rattle.drawing_spec.specs.OnGrid.{OnGrid};
@@ -13,7 +15,7 @@ use file_records::Settings;
 use limits::{ARC_ROOM, EDGE_ROOM, MOST_NODES};
 
 // A point by its places on the grid.
-#[derive(Drop)]
+#[derive(Clone, Copy)]
 pub struct Point {
     pub x: u32,
     pub y: u32,
@@ -110,7 +112,8 @@ pub fn nodes_with_edges(
     let mut v: usize = 0;
     while v < n {
         let arc = graph_adjacency::first_arc(heads, v);
-        if arc != 0 {
+        let drawn = arc != 0;
+        if drawn {
             nodes[count] = v as u16;
             count += 1;
         }

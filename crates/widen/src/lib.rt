@@ -1,5 +1,7 @@
 // A number as it stands in an array, as a wider one: a node or an arc to count and index with, what a caller hands to the writer.
 // Each is a function, so that the proof that it fits, which a cast asks for, stands here once.
+#![tactic(auto)]
+
 ghost use Rattle.std.specs.Prelude.{◌≡◌};
 
 pub fn wide(x: u16) -> usize

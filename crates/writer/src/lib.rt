@@ -1,6 +1,8 @@
 // The writer of drawing files: for every drawing that is handed to it the number of the first condition that holds, or the one file
 // without minus zero that reads back as it. The checks are in `file_checks` and `writer_checks`, the records in `writer_records`;
 // this crate has the checks in their order and what the writer answers.
+#![tactic(auto)]
+
 ghost use Rattle.std.specs.Prelude.{◌≡◌, ◌&&◌, ◌≤◌};
 ghost use Rattle.limits.specs.Limits.{file_size, most_lines, most_points, most_links};
 ghost use Rattle.drawing_spec.specs.Refusal.{verdict, refusal_of};
@@ -96,7 +98,7 @@ fn first_refusal(
 }
 
 // The number of the refusal, or how many bytes the file has.
-#[derive(Drop)]
+#[derive(Clone, Copy)]
 pub enum Answer {
     Refused(u8),
     Written(usize),
@@ -117,7 +119,8 @@ pub fn save(
     ensures one_file { WritesOne result (sketch_given (given (settings_of s) sizes.now coordinates.now segments.now ends.now)) destination.new }
 {
     let number = first_refusal(s, sizes, coordinates, segments, ends, destination.len());
-    if number != 0 {
+    let refused = number != 0;
+    if refused {
         return Answer::Refused(number);
     }
     writer_records::write_file(destination, s, sizes, coordinates, segments, ends);

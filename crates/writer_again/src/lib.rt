@@ -1,5 +1,7 @@
 // A drawing file read and saved again: the slices that the writer takes are filled from the drawing's flat arrays, in which a
 // coordinate of a line is its place on the grid and one of a link is a float.
+#![tactic(auto)]
+
 ghost use Rattle.std.specs.Prelude.{◌≡◌, not, ◌+◌, ◌*◌, ◌≤◌, ◌<◌, T, get_or, replicate};
 ghost use Rattle.std.specs.Float.{binary64};
 ghost use Rattle.std.specs.Float.Ieee.{is_nan, to_bits};

@@ -191,8 +191,8 @@ module _ (sizes words : List ℕ) where
       none = ap total (drop_of_length-le sizes {i = line} h) ∙ total_nil
 
       go : (t : Bool) → eqb left 0 ≡ t → t ≡ eqb (2 * total sizes) (length words)
-      go true e = let z = eqb_true left 0 e in let a = c.is in let b = none in sym (eq-eqb (2 * total sizes) (length words) (omega arith))
-      go false e = let z = eqb_false left 0 e in let a = c.is in let b = none in sym (ne_eqb (2 * total sizes) (length words) (λ q. z (omega arith)))
+      go true e = let z = eqb-true left 0 e in let a = c.is in let b = none in sym (eq-eqb (2 * total sizes) (length words) (omega arith))
+      go false e = let z = eqb-false left 0 e in let a = c.is in let b = none in sym (ne_eqb (2 * total sizes) (length words) (λ q. z (omega arith)))
 
 -- ---- one end
 

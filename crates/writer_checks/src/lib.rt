@@ -1,5 +1,7 @@
 // The writer's checks of the slices that a drawing is handed in: whether they fit one another, 7, and 8. (5, 6 and 15 look at the
 // settings and at counts alone: `file_checks` has them.)
+#![tactic(auto)]
+
 ghost use Rattle.std.specs.Prelude.{◌≡◌, ◌+◌, ◌-◌, ◌*◌, ◌/◌, ◌≤◌, length, eqb};
 ghost use Rattle.drawing_spec.specs.Read.{total};
 ghost use Rattle.writer_checks.specs.Checked.{all_on, end_in, link_in, links_in};

@@ -1,4 +1,6 @@
 // The records of a drawing that is handed in as slices, put into a destination that has room for them: settings, lines, links.
+#![tactic(auto)]
+
 ghost use Rattle.std.specs.Prelude.{◌≡◌, ◌+◌, ◌*◌, ◌/◌, ◌≤◌, length};
 ghost use Rattle.std.proofs.lemmas.List.Edits.{sets};
 ghost use Rattle.limits.specs.Limits.{head_size, settings_size, point_size, link_size};

@@ -3,28 +3,28 @@ use borrow.Author.Rules.{rules}
 use Rattle.center.proofs.from_middle.Statement.{statement}
 use Rattle.center.proofs.from_middle.Tie as tie
 
-mul_at : tie.Need-overflow-mul-at
+mul_at : tie.Need-overflow_mul-at
 mul_at c = search rules
 
-cast-middle : tie.Need-overflow-cast-middle
+cast-middle : tie.Need-overflow_cast-middle
 cast-middle c = search rules
 
-mul-middle : tie.Need-overflow-mul-middle
+mul-middle : tie.Need-overflow_mul-middle
 mul-middle c = search rules
 
-mul-middle-2 : tie.Need-overflow-mul-middle-2
+mul-middle-2 : tie.Need-overflow_mul-middle-2
 mul-middle-2 c = search rules
 
-add-middle : tie.Need-overflow-add-middle
+add-middle : tie.Need-overflow_add-middle
 add-middle c = search rules
 
-sub-result : tie.Need-overflow-sub-result
+sub-result : tie.Need-overflow_sub-result
 sub-result c = search rules
 
-returns : tie.Need-returns
+returns : tie.Need-returns-then-at-middle
 returns c = search rules
 
-returns-2 : tie.Need-returns-2
+returns-2 : tie.Need-returns-else-at-middle
 returns-2 c = search rules
 
 pub from_middle_spec : {M : Type 1} → statement M

@@ -6,11 +6,11 @@ use borrow.Author.Rules.{rules}
 use Rattle.file.proofs.refused.Statement.{statement}
 use Rattle.file.proofs.refused.Tie as tie
 
-no-drawing-requires : tie.Need-no-drawing-requires
+no-drawing-requires : tie.Need-no_drawing-drawing-requires
 no-drawing-requires c κs = search rules
 
 returns : tie.Need-returns
-returns c = ap (λ (d : Drawing). record { verdict = Refused c.before.args.number; drawing = d }) c.no-drawing.ensures
+returns c = ap (λ (d : Drawing). record { verdict = Refused c.args.number; drawing = d }) c.no_drawing-drawing.ensures
 
 pub refused_spec : {M : Type 1} → statement M
 refused_spec = tie.close (tie.spec no-drawing-requires returns)

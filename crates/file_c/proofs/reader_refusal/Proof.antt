@@ -6,23 +6,23 @@ use borrow.Author.Rules.{rules}
 use Rattle.file_c.proofs.reader_refusal.Statement.{statement}
 use Rattle.file_c.proofs.reader_refusal.Tie as tie
 
-read-requires : tie.Need-read-requires
+read-requires : tie.Need-read-reading-requires
 read-requires c κs = search rules
 
-enum-known-verdict : tie.Need-enum-known-verdict
+enum-known-verdict : tie.Need-enum_known-verdict
 enum-known-verdict c = search rules
 
-cast-result : tie.Need-overflow-cast-result
+cast-result : tie.Need-overflow_cast-result
 cast-result c = search rules
 
-enum_told : tie.Need-enum-told
+enum_told : tie.Need-enum_told-1
 enum_told c = search rules
 
-returns : tie.Need-returns
-returns c = ap number_in (sym c.before.verdict.given.1 ∙ ap (λ (r : Reading). r.verdict) c.before.before.before.read.ensures) ∙ number_is c.before.before.before.before.before.args.file.now
+returns : tie.Need-returns-in-Refused
+returns c = ap number_in (sym c.in-Refused.is ∙ ap (λ (r : Reading). r.verdict) c.read-reading.ensures) ∙ number_is c.args.file.now
 
-returns-2 : tie.Need-returns-2
-returns-2 c = ap number_in (sym c.enum_told.given.1 ∙ ap (λ (r : Reading). r.verdict) c.before.before.read.ensures) ∙ number_is c.before.before.before.before.args.file.now
+returns-2 : tie.Need-returns-in-Accepted
+returns-2 c = ap number_in (sym c.in-Accepted.is ∙ ap (λ (r : Reading). r.verdict) c.read-reading.ensures) ∙ number_is c.args.file.now
 
 pub reader_refusal_spec : {M : Type 1} → statement M
 reader_refusal_spec =

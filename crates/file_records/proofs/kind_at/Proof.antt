@@ -3,7 +3,7 @@ use borrow.Author.Rules.{rules}
 use Rattle.file_records.proofs.kind_at.Statement.{statement}
 use Rattle.file_records.proofs.kind_at.Tie as tie
 
-add-number2 : tie.Need-overflow-add-number2
+add-number2 : tie.Need-overflow_add-at
 add-number2 c = search rules
 
 number2-requires : tie.Need-number2-requires

@@ -5,29 +5,29 @@ use borrow.Author.Rules.{rules}
 use Rattle.file_records.proofs.number2.Statement.{statement}
 use Rattle.file_records.proofs.number2.Tie as tie
 
-shared-slice-read-wide : tie.Need-shared-slice-read-wide
+shared-slice-read-wide : tie.Need-bounds-file-at
 shared-slice-read-wide c = search rules
 
-wide-requires : tie.Need-wide-requires
+wide-requires : tie.Need-wide-low-requires
 wide-requires c κs = search rules
 
-add_wide : tie.Need-overflow-add-wide
+add_wide : tie.Need-overflow_add-at
 add_wide c = search rules
 
-shared-slice-read-wide-2 : tie.Need-shared-slice-read-wide-2
+shared-slice-read-wide-2 : tie.Need-bounds-file-at-2
 shared-slice-read-wide-2 c = search rules
 
-wide-requires-2 : tie.Need-wide-requires-2
+wide-requires-2 : tie.Need-wide-high-requires
 wide-requires-2 c κs = search rules
 
-mul-result : tie.Need-overflow-mul-result
+mul-result : tie.Need-overflow_mul-result
 mul-result c = search rules
 
-add-result : tie.Need-overflow-add-result
+add-result : tie.Need-overflow_add-result
 add-result c = search rules
 
 returns : tie.Need-returns
-returns c = omega (arith, number_two c.before.before.before.before.before.args.at c.before.before.before.before.before.args.file.now)
+returns c = omega (arith, number_two c.args.at c.args.file.now)
 
 pub number2_spec : {M : Type 1} → statement M
 number2_spec =

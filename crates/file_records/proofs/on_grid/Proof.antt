@@ -9,11 +9,11 @@ use Rattle.file_records.proofs.on_grid.Tie as tie
 number8-requires : tie.Need-number8-requires
 number8-requires c κs = search rules
 
-on-grid-requires : tie.Need-on-grid-requires
+on-grid-requires : tie.Need-on_grid-requires
 on-grid-requires c κs = search rules
 
 returns : tie.Need-returns
-returns c = c.on-grid.ensures ∙ ap (λ (n : ℕ). on_grid (read_place n)) c.before.number8.ensures
+returns c = c.on_grid.ensures ∙ ap (λ (n : ℕ). on_grid (read_place n)) c.number8.ensures
 
 pub on_grid_spec : {M : Type 1} → statement M
 on_grid_spec =

@@ -4,23 +4,23 @@ use borrow.Author.Rules.{rules}
 use Rattle.file_records.proofs.point_at.Statement.{statement}
 use Rattle.file_records.proofs.point_at.Tie as tie
 
-place-at-requires : tie.Need-place-at-requires
+place-at-requires : tie.Need-place_at-requires
 place-at-requires c κs = search rules
 
-coordinate-requires : tie.Need-coordinate-requires
+coordinate-requires : tie.Need-coordinate-x-requires
 coordinate-requires c κs = search rules
 
-add-place-at : tie.Need-overflow-add-place-at
+add-place-at : tie.Need-overflow_add-at
 add-place-at c = search rules
 
-place-at-requires-2 : tie.Need-place-at-requires-2
+place-at-requires-2 : tie.Need-place_at-requires-2
 place-at-requires-2 c κs = search rules
 
-coordinate-requires-2 : tie.Need-coordinate-requires-2
+coordinate-requires-2 : tie.Need-coordinate-y-requires
 coordinate-requires-2 c κs = search rules
 
 returns : tie.Need-returns
-returns c = point_made c.before.before.before.before.before.args.at c.before.before.before.before.before.args.file.now _ _ _ _ c.before.before.coordinate.ensures c.coordinate2.ensures c.before.before.before.place_at.ensures c.before.place-at2.ensures
+returns c = point_made c.args.at c.args.file.now _ _ _ _ c.coordinate-x.ensures c.coordinate-y.ensures c.place_at.ensures c.place_at-2.ensures
 
 pub point_at_spec : {M : Type 1} → statement M
 point_at_spec =

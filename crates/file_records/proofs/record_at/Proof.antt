@@ -8,17 +8,17 @@ use borrow.Author.Rules.{rules}
 use Rattle.file_records.proofs.record_at.Statement.{statement}
 use Rattle.file_records.proofs.record_at.Tie as tie
 
-whole-at-requires : tie.Need-whole-at-requires
+whole-at-requires : tie.Need-whole_at-requires
 whole-at-requires c κs = search rules
 
-body-at-requires : tie.Need-body-at-requires
-body-at-requires c κs = leb-true (next_at c.before.before.before.args.file.now c.before.before.before.args.at) (length c.before.before.before.args.file.now) (sym c.before.whole-at.ensures ∙ c.if1.true)
+body-at-requires : tie.Need-body_at-body-requires
+body-at-requires c κs = leb-true (next_at c.args.file.now c.args.at) (length c.args.file.now) (sym c.whole_at.ensures ∙ c.if-whole_at.true)
 
-returns : tie.Need-returns
-returns c = record_whole c.before.before.before.before.args.file.now c.before.before.before.before.args.at _ c.before.before.whole-at.ensures _ c.before.if1.true c.body_at.ensures
+returns : tie.Need-returns-then-whole_at
+returns c = record_whole c.args.file.now c.args.at _ c.whole_at.ensures _ c.if-whole_at.true c.body_at-body.ensures
 
-returns-2 : tie.Need-returns-2
-returns-2 c = record_none c.before.before.before.args.file.now c.before.before.before.args.at _ c.before.whole-at.ensures c.if1.false
+returns-2 : tie.Need-returns-else-whole_at
+returns-2 c = record_none c.args.file.now c.args.at _ c.whole_at.ensures c.if-whole_at.false
 
 pub record_at_spec : {M : Type 1} → statement M
 record_at_spec = tie.close (tie.spec whole-at-requires body-at-requires returns returns-2)

@@ -3,10 +3,10 @@ use borrow.Author.Rules.{rules}
 use Rattle.file_records.proofs.size_at.Statement.{statement}
 use Rattle.file_records.proofs.size_at.Tie as tie
 
-number4-requires : tie.Need-number4-requires
+number4-requires : tie.Need-number4-size-requires
 number4-requires c κs = search rules
 
-cast-result : tie.Need-overflow-cast-result
+cast-result : tie.Need-overflow_cast-result
 cast-result c = search rules
 
 returns : tie.Need-returns

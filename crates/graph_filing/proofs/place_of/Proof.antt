@@ -5,17 +5,17 @@ use borrow.Author.Rules.{rules}
 use Rattle.graph_filing.proofs.place_of.Statement.{statement}
 use Rattle.graph_filing.proofs.place_of.Tie as tie
 
-float-to-bits-bits : tie.Need-float-to-bits-bits
+float-to-bits-bits : tie.Need-float_to_bits-bits
 float-to-bits-bits c = float_no_nan _ c.requires
 
-read-place-requires : tie.Need-read-place-requires
+read-place-requires : tie.Need-read_place-requires
 read-place-requires c κs = search rules
 
-place-number-requires : tie.Need-place-number-requires
+place-number-requires : tie.Need-place_number-requires
 place-number-requires c κs = search rules
 
 returns : tie.Need-returns
-returns c = c.place-number.ensures ∙ place_read _ c.before.before.requires _ c.before.read-place.ensures
+returns c = c.place_number.ensures ∙ place_read _ c.requires _ c.read_place.ensures
 
 pub place_of_spec : {M : Type 1} → statement M
 place_of_spec = tie.close (tie.spec float-to-bits-bits read-place-requires place-number-requires returns)

@@ -5,14 +5,14 @@ use borrow.Author.Rules.{rules}
 use Rattle.graph_nodes.proofs.count_with.Statement.{statement}
 use Rattle.graph_nodes.proofs.count_with.Tie as tie
 
-add-result : tie.Need-overflow-add-result
+add-result : tie.Need-overflow_add-result
 add-result c = search rules
 
-returns : tie.Need-returns
-returns c = sym (count_new c.before.args.n c.before.args.number c.if1.true)
+returns : tie.Need-returns-then-new
+returns c = sym (count_new c.args.n c.args.number c.if-new.true)
 
-returns-2 : tie.Need-returns-2
-returns-2 c = sym (count_old c.before.args.n c.before.args.number c.if1.false)
+returns-2 : tie.Need-returns
+returns-2 c = sym (count_old c.args.n c.args.number c.if-new.false)
 
 pub count_with_spec : {M : Type 1} → statement M
 count_with_spec = tie.close (tie.spec add-result returns returns-2)

@@ -5,23 +5,23 @@ use borrow.Author.Rules.{rules}
 use Rattle.graph_nodes.proofs.is_at.Statement.{statement}
 use Rattle.graph_nodes.proofs.is_at.Tie as tie
 
-mul-px : tie.Need-overflow-mul-px
+mul-px : tie.Need-offset_bounds-xs-i
 mul-px c = search rules
 
-element-copy-out-px : tie.Need-element-copy-out-px
+element-copy-out-px : tie.Need-bounds-xs-i
 element-copy-out-px c = search rules
 
-mul-py : tie.Need-overflow-mul-py
+mul-py : tie.Need-offset_bounds-ys-i
 mul-py c = search rules
 
-element-copy-out-py : tie.Need-element-copy-out-py
+element-copy-out-py : tie.Need-bounds-ys-i
 element-copy-out-py c = search rules
 
-returns : tie.Need-returns
-returns c = at_one (get_or c.before.before.before.args.xs.now c.before.before.before.args.i 0) (get_or c.before.before.before.args.ys.now c.before.before.before.args.i 0) c.before.before.before.args.x c.before.before.before.args.y c.before.if1.true
+returns : tie.Need-returns-then-px-x
+returns c = at_one (get_or c.args.xs.now c.args.i 0) (get_or c.args.ys.now c.args.i 0) c.args.x c.args.y c.if-px-x.true
 
-returns-2 : tie.Need-returns-2
-returns-2 c = at_none (get_or c.before.before.args.xs.now c.before.before.args.i 0) (get_or c.before.before.args.ys.now c.before.before.args.i 0) c.before.before.args.x c.before.before.args.y c.if1.false
+returns-2 : tie.Need-returns
+returns-2 c = at_none (get_or c.args.xs.now c.args.i 0) (get_or c.args.ys.now c.args.i 0) c.args.x c.args.y c.if-px-x.false
 
 pub is_at_spec : {M : Type 1} → statement M
 is_at_spec =

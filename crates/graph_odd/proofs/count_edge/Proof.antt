@@ -8,57 +8,55 @@ use borrow.Author.Rules.{rules}
 use Rattle.graph_odd.proofs.count_edge.Statement.{statement}
 use Rattle.graph_odd.proofs.count_edge.Tie as tie
 
-mul_wide : tie.Need-overflow-mul-wide
+mul_wide : tie.Need-offset_bounds-ends-i
 mul_wide c = search rules
 
-element-copy-out-wide : tie.Need-element-copy-out-wide
+element-copy-out-wide : tie.Need-bounds-ends-i
 element-copy-out-wide c = search rules
 
-wide-requires : tie.Need-wide-requires
+wide-requires : tie.Need-wide-u-requires
 wide-requires c κs = search rules
 
-add_wide : tie.Need-overflow-add-wide
+add_wide : tie.Need-overflow_add-i
 add_wide c = search rules
 
-mul-wide-2 : tie.Need-overflow-mul-wide-2
+mul-wide-2 : tie.Need-offset_bounds-ends-i-2
 mul-wide-2 c = search rules
 
-element-copy-out-wide-2 : tie.Need-element-copy-out-wide-2
+element-copy-out-wide-2 : tie.Need-bounds-ends-i-2
 element-copy-out-wide-2 c = search rules
 
-wide-requires-2 : tie.Need-wide-requires-2
+wide-requires-2 : tie.Need-wide-v-requires
 wide-requires-2 c κs = search rules
 
-mul-degrees : tie.Need-overflow-mul-degrees
+mul-degrees : tie.Need-offset_bounds-degrees-u
 mul-degrees c = search rules
 
-element-copy-out-degrees : tie.Need-element-copy-out-degrees
+element-copy-out-degrees : tie.Need-bounds-degrees-u
 element-copy-out-degrees c = search rules
 
-add-degrees : tie.Need-overflow-add-degrees
+add-degrees : tie.Need-overflow_add-degrees
 add-degrees c =
-    let b = c.before.before.before.before.before in
-    omega (arith, first_rises _ _ _ b.requires _ _ c.before.before.before.wide.ensures c.before.wide2.ensures)
+    omega (arith, first_rises _ _ _ c.requires _ _ c.wide-u.ensures c.wide-v.ensures)
 
-element-write-degrees : tie.Need-element-write-degrees
+element-write-degrees : tie.Need-bounds-degrees-u-2
 element-write-degrees c = search rules
 
-mul-degrees-2 : tie.Need-overflow-mul-degrees-2
+mul-degrees-2 : tie.Need-offset_bounds-degrees-v
 mul-degrees-2 c = search rules
 
-element-copy-out-degrees-2 : tie.Need-element-copy-out-degrees-2
+element-copy-out-degrees-2 : tie.Need-bounds-degrees-v
 element-copy-out-degrees-2 c = search rules
 
-add-degrees-2 : tie.Need-overflow-add-degrees-2
+add-degrees-2 : tie.Need-overflow_add-degrees-2
 add-degrees-2 c =
-    let b = c.before.before.before.before.before.before in
-    omega (arith, second_rises _ _ _ b.requires _ _ c.before.before.before.before.wide.ensures c.before.before.wide2.ensures)
+    omega (arith, second_rises _ _ _ c.requires _ _ c.wide-u.ensures c.wide-v.ensures)
 
-element-write-degrees-2 : tie.Need-element-write-degrees-2
+element-write-degrees-2 : tie.Need-bounds-degrees-v-2
 element-write-degrees-2 c = search rules
 
 returns : tie.Need-returns
-returns c = ap₂ (λ (u v : ℕ). bumped c.before.before.before.before.before.before.args.degrees.now u v) c.before.before.before.before.wide.ensures c.before.before.wide2.ensures
+returns c = ap₂ (λ (u v : ℕ). bumped c.args.degrees.now u v) c.wide-u.ensures c.wide-v.ensures
 
 pub count_edge_spec : {M : Type 1} → statement M
 count_edge_spec =

@@ -10,44 +10,44 @@ use borrow.Author.Rules.{rules}
 use Rattle.graph_reach.proofs.all_reached.Statement.{statement}
 use Rattle.graph_reach.proofs.all_reached.Tie as tie
 
-abbrev invariant_loop : tie.invariant_loop
+abbrev invariant_loop : tie.invariant-loop-head
 invariant_loop ends weights next heads n m marked₀ queue₀ head₀ tail₀ marked queue head tail = Walking (edges_in m (adjacency ends weights next heads)) (marks marked queue tail) head
 
-abbrev decreases_loop : tie.decreases_loop
+abbrev decreases_loop : tie.decreases-loop-head
 decreases_loop ends weights next heads n m marked₀ queue₀ head₀ tail₀ marked queue head tail = most_nodes - head
 
-array-write-marked : tie.Need-array-write-marked invariant_loop decreases_loop
+array-write-marked : tie.Need-bounds-marked-0 invariant_loop decreases_loop
 array-write-marked c = search rules
 
-loop-holds : tie.Need-loop-init invariant_loop decreases_loop
+loop-holds : tie.Need-loop-head-init invariant_loop decreases_loop
 loop-holds c = walking_start _
 
-mul_wide : tie.Need-overflow-mul-wide invariant_loop decreases_loop
+mul_wide : tie.Need-offset_bounds-queue-head invariant_loop decreases_loop
 mul_wide c = search rules
 
-array-read-wide : tie.Need-array-read-wide invariant_loop decreases_loop
+array-read-wide : tie.Need-bounds-queue-head invariant_loop decreases_loop
 array-read-wide c = search rules
 
-wide-requires : tie.Need-wide-requires invariant_loop decreases_loop
+wide-requires : tie.Need-wide-v-requires invariant_loop decreases_loop
 wide-requires c κs = search rules
 
-mark-neighbours-requires : tie.Need-mark-neighbours-requires invariant_loop decreases_loop
-mark-neighbours-requires c κs = (c.before.before.before.before.before.requires, (walking_node _ _ _ _ c.before.before.before.loop-test.true c.before.before.wide.ensures c.before.before.before.before.loop.invariant, c.before.before.before.before.loop.invariant.tidy))
+mark-neighbours-requires : tie.Need-mark_neighbours-tail-requires invariant_loop decreases_loop
+mark-neighbours-requires c κs = (c.requires, (walking_node _ _ _ _ c.loop-head-test.true c.wide-v.ensures c.loop-head.invariant, c.loop-head.invariant.tidy))
 
-add-head : tie.Need-overflow-add-head invariant_loop decreases_loop
+add-head : tie.Need-overflow_add-head invariant_loop decreases_loop
 add-head c = search rules
 
-loop-less : tie.Need-loop-smaller invariant_loop decreases_loop
-loop-less c = omega (arith, c.before.before.before.before.before.loop.invariant.tidy.room)
+loop-less : tie.Need-loop-head-smaller invariant_loop decreases_loop
+loop-less c = omega (arith, c.loop-head.invariant.tidy.room)
 
-loop-again : tie.Need-loop-preserved invariant_loop decreases_loop
-loop-again c = walking_next _ _ _ _ _ _ c.before.before.before.before.loop-test.true c.before.before.before.wide.ensures c.before.before.before.before.before.loop.invariant c.before.before.before.before.before.before.requires _ c.mark-neighbours.ensures
+loop-again : tie.Need-loop-head-preserved invariant_loop decreases_loop
+loop-again c = walking_next _ _ _ _ _ _ c.loop-head-test.true c.wide-v.ensures c.loop-head.invariant c.requires _ c.mark_neighbours-tail.ensures
 
-all-marked-requires : tie.Need-all-marked-requires invariant_loop decreases_loop
-all-marked-requires c κs = c.before.before.before.requires.few_nodes
+all-marked-requires : tie.Need-all_marked-requires invariant_loop decreases_loop
+all-marked-requires c κs = c.requires.few_nodes
 
 returns : tie.Need-returns invariant_loop decreases_loop
-returns c = walked _ _ _ _ _ c.before.before.before.before.requires.inside c.before.before.loop-test.false c.before.before.before.loop.invariant c.all-marked.ensures
+returns c = walked _ _ _ _ _ c.requires.inside c.loop-head-test.false c.loop-head.invariant c.all_marked.ensures
 
 pub all_reached_spec : {M : Type 1} → statement M
 all_reached_spec =

@@ -5,29 +5,29 @@ use borrow.Author.Rules.{rules}
 use Rattle.graph_reach.proofs.mark.Statement.{statement}
 use Rattle.graph_reach.proofs.mark.Tie as tie
 
-element-copy-out-if1 : tie.Need-element-copy-out-if1
+element-copy-out-if1 : tie.Need-bounds-marked-v
 element-copy-out-if1 c = search rules
 
-returns : tie.Need-returns
-returns c = sym (marking_old _ _ c.if1.true)
+returns : tie.Need-returns-then-marked-v
+returns c = sym (marking_old _ _ c.if-marked-v.true)
 
-element-write-marked : tie.Need-element-write-marked
+element-write-marked : tie.Need-bounds-marked-v-2
 element-write-marked c = search rules
 
-cast-queue : tie.Need-overflow-cast-queue
+cast-queue : tie.Need-overflow_cast-queue
 cast-queue c = search rules
 
-mul-queue : tie.Need-overflow-mul-queue
+mul-queue : tie.Need-offset_bounds-queue-tail
 mul-queue c = search rules
 
-element-write-queue : tie.Need-element-write-queue
-element-write-queue c = room_for _ c.before.before.requires.1 _ c.before.before.requires.0 c.if1.false
+element-write-queue : tie.Need-bounds-queue-tail
+element-write-queue c = room_for _ c.requires.1 _ c.requires.0 c.if-marked-v.false
 
-add-result : tie.Need-overflow-add-result
+add-result : tie.Need-overflow_add-result
 add-result c = search rules
 
-returns-2 : tie.Need-returns-2
-returns-2 c = sym (marking_new _ _ c.if1.false)
+returns-2 : tie.Need-returns
+returns-2 c = sym (marking_new _ _ c.if-marked-v.false)
 
 pub mark_spec : {M : Type 1} → statement M
 mark_spec =

@@ -32,25 +32,28 @@ at p n t d h e s k =
     ∙ ap (λ (n : ℕ). round binary64 (ltb p origin) n (2 ^ grid_exponent)) k
     ∙ sym (coordinate_is grid_exponent p)
 
-sub-result : tie.Need-overflow-sub-result
+sub-result : tie.Need-overflow_sub-result
 sub-result c = search rules
 
-int-to-float-result : tie.Need-int-to-float-result
+int-to-float-result : tie.Need-int_to_float-result
 int-to-float-result c = search rules
 
-int-to-float-result-2 : tie.Need-int-to-float-result-2
+sub-result-2 : tie.Need-overflow_sub-result-else-left
+sub-result-2 c = search rules
+
+int-to-float-result-2 : tie.Need-int_to_float-result-else-left
 int-to-float-result-2 c = search rules
 
-returns : tie.Need-returns
+returns : tie.Need-returns-then-left
 returns c =
-    let p = c.before.before.args.place in
+    let p = c.args.place in
     at p (origin - p) true (neg (of_bits binary64 4652218415073722368)) (omega arith) minus_step (sym (lt-ltb p origin (omega arith))) (omega arith)
 
-returns-2 : tie.Need-returns-2
+returns-2 : tie.Need-returns-else-left
 returns-2 c =
-    let p = c.before.before.args.place in
+    let p = c.args.place in
     at p (p - origin) false (of_bits binary64 4652218415073722368) (omega arith) step (sym (le-ltb p origin (omega arith))) (omega arith)
 
 pub coordinate_spec : {M : Type 1} → statement M
 coordinate_spec =
-    tie.close (tie.spec sub-result int-to-float-result int-to-float-result-2 returns returns-2)
+    tie.close (tie.spec sub-result int-to-float-result sub-result-2 int-to-float-result-2 returns returns-2)

@@ -36,58 +36,58 @@ on b s e h k w n =
     ∙ ap (λ (s : Bool). place_of_steps origin s (whole b) (2 ^ below b)) e
     ∙ at_place origin s (whole b) (2 ^ below b) (shifts_back (whole b) (2 ^ below b) (whole_fits b) w) n
 
-returns : tie.Need-returns
-returns c = sym (zero_read grid_exponent c.before.before.args.bits (search rules) (omega arith))
+returns : tie.Need-returns-then-bits-eq0
+returns c = sym (zero_read grid_exponent c.args.bits (search rules) (omega arith))
 
-returns-2 : tie.Need-returns-2
-returns-2 c = sym (read_below grid_exponent c.before.before.args.bits (search rules) c.if2.false (omega arith))
+returns-2 : tie.Need-returns-then-field-lt-ONE_STEP
+returns-2 c = sym (read_below grid_exponent c.args.bits (search rules) c.if-bits-eq0.false (omega arith))
 
-returns-3 : tie.Need-returns-3
-returns-3 c = sym (read_above grid_exponent c.before.before.args.bits (omega arith))
+returns-3 : tie.Need-returns-then-field-gt-LARGEST
+returns-3 c = sym (read_above grid_exponent c.args.bits (omega arith))
 
-add-digits : tie.Need-overflow-add-digits
+add-digits : tie.Need-overflow_add-digits
 add-digits c = search rules
 
-sub-below : tie.Need-overflow-sub-below
+sub-below : tie.Need-overflow_sub-below
 sub-below c = search rules
 
-shr-steps : tie.Need-overflow-shr-steps
+shr-steps : tie.Need-overflow_shr-steps
 shr-steps c = search rules
 
-shl-if4 : tie.Need-overflow-shl-if4
+shl-if4 : tie.Need-overflow_shl-steps
 shl-if4 c = search rules
 
-returns-4 : tie.Need-returns-4
+returns-4 : tie.Need-returns-then-steps-below
 returns-4 c =
-    let b = c.before.before.before.args.bits in
-    sym (between b (omega arith) (omega arith) ∙ part_of_step origin (negative b) (whole b) (2 ^ below b) (shifts_off (whole b) (2 ^ below b) (whole_fits b) c.if4.true))
+    let b = c.args.bits in
+    sym (between b (omega arith) (omega arith) ∙ part_of_step origin (negative b) (whole b) (2 ^ below b) (shifts_off (whole b) (2 ^ below b) (whole_fits b) c.if-steps-below.true))
 
-cast-if5 : tie.Need-overflow-cast-if5
+cast-if5 : tie.Need-overflow_cast-t-8
 cast-if5 c = search rules
 
-returns-5 : tie.Need-returns-5
+returns-5 : tie.Need-returns-then-steps
 returns-5 c =
-    let b = c.before.before.before.before.args.bits in
+    let b = c.args.bits in
     sym (between b (omega arith) (omega arith) ∙ too_far origin (negative b) (whole b) (2 ^ below b) (omega arith))
 
-cast-count : tie.Need-overflow-cast-count
+cast-count : tie.Need-overflow_cast-count
 cast-count c = search rules
 
-add-t12 : tie.Need-overflow-add-t12
+add-t12 : tie.Need-overflow_add-result
 add-t12 c = search rules
 
-sub-t13 : tie.Need-overflow-sub-t13
+sub-t13 : tie.Need-overflow_sub-result
 sub-t13 c = search rules
 
-returns-6 : tie.Need-returns-6
+returns-6 : tie.Need-returns-then-positive
 returns-6 c =
-    let b = c.before.before.before.before.before.args.bits in
-    sym (on b false (lt-leb (2 ^ 63) b (omega arith)) (omega arith) (omega arith) c.before.before.if4.false (omega arith))
+    let b = c.args.bits in
+    sym (on b false (lt-leb (2 ^ 63) b (omega arith)) (omega arith) (omega arith) c.if-steps-below.false (omega arith))
 
-returns-7 : tie.Need-returns-7
+returns-7 : tie.Need-returns-else-positive
 returns-7 c =
-    let b = c.before.before.before.before.before.args.bits in
-    sym (on b true (le-leb (2 ^ 63) b (omega arith)) (omega arith) (omega arith) c.before.before.if4.false (omega arith))
+    let b = c.args.bits in
+    sym (on b true (le-leb (2 ^ 63) b (omega arith)) (omega arith) (omega arith) c.if-steps-below.false (omega arith))
 
 pub read_place_spec : {M : Type 1} → statement M
 read_place_spec =

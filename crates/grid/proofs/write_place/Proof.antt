@@ -13,11 +13,11 @@ use Rattle.grid.proofs.write_place.Tie as tie
 coordinate-requires : tie.Need-coordinate-requires
 coordinate-requires c κs = search rules
 
-float-to-bits-result : tie.Need-float-to-bits-result
+float-to-bits-result : tie.Need-float_to_bits-result
 float-to-bits-result c = subst (λ (x : Float). T (not (is_nan x))) (sym c.coordinate.ensures) (coordinate_no_nan _ (omega arith))
 
 returns : tie.Need-returns
-returns c = ap (to_bits binary64) c.coordinate.ensures ∙ sym (write_is grid_exponent c.before.args.place)
+returns c = ap (to_bits binary64) c.coordinate.ensures ∙ sym (write_is grid_exponent c.args.place)
 
 pub write_place_spec : {M : Type 1} → statement M
 write_place_spec = tie.close (tie.spec coordinate-requires float-to-bits-result returns)

@@ -5,31 +5,31 @@ use borrow.Author.Rules.{rules}
 use Rattle.grid_vectors.proofs.count_wrong.Statement.{statement}
 use Rattle.grid_vectors.proofs.count_wrong.Tie as tie
 
-abbrev invariant_loop : tie.invariant_loop
+abbrev invariant_loop : tie.invariant-loop-at
 invariant_loop s found₀ at₀ found at = (at ≤ length s) × (found ≤ at)
 
-abbrev decreases_loop : tie.decreases_loop
+abbrev decreases_loop : tie.decreases-loop-at
 decreases_loop s found₀ at₀ found at = length s - at
 
-loop-holds : tie.Need-loop-init invariant_loop decreases_loop
+loop-holds : tie.Need-loop-at-init invariant_loop decreases_loop
 loop-holds c = search rules
 
-sub-loop : tie.Need-overflow-sub-loop invariant_loop decreases_loop
+sub-loop : tie.Need-overflow_sub-s invariant_loop decreases_loop
 sub-loop c = search rules
 
-wrong-requires : tie.Need-wrong-requires invariant_loop decreases_loop
+wrong-requires : tie.Need-wrong-found-requires invariant_loop decreases_loop
 wrong-requires c κs = search rules
 
-add-found : tie.Need-overflow-add-found invariant_loop decreases_loop
+add-found : tie.Need-overflow_add-found invariant_loop decreases_loop
 add-found c = search rules
 
-add_at : tie.Need-overflow-add-at invariant_loop decreases_loop
+add_at : tie.Need-overflow_add-at invariant_loop decreases_loop
 add_at c = search rules
 
-loop-less : tie.Need-loop-smaller invariant_loop decreases_loop
+loop-less : tie.Need-loop-at-smaller invariant_loop decreases_loop
 loop-less c = search rules
 
-loop-again : tie.Need-loop-preserved invariant_loop decreases_loop
+loop-again : tie.Need-loop-at-preserved invariant_loop decreases_loop
 loop-again c = search rules
 
 returns : tie.Need-returns invariant_loop decreases_loop

@@ -21,7 +21,7 @@ root-requires c κs = search rules
 returns : tie.Need-returns
 returns c =
     let q = ap₂ (λ (x y : Float). div binary64 x y) c.root.ensures.0 steps ∙ sym (root_over_divides binary64 grid_exponent _) in
-    (q, λ p. rw q (length_nearest grid_exponent (lit≤ tt) _ p c.before.ranges.n.fits))
+    (q, λ p. rw q (length_nearest grid_exponent (lit≤ tt) _ p c.ranges.n.fits))
 
 pub length_spec : {M : Type 1} → statement M
 length_spec = tie.close (tie.spec root-requires returns)

@@ -4,7 +4,7 @@ use native.Mathlib.Omega.{arith}
 use Rattle.length.proofs.part.Statement.{statement}
 use Rattle.length.proofs.part.Tie as tie
 
-mul-result : tie.Need-overflow-mul-result
+mul-result : tie.Need-overflow_mul-result
 mul-result c = omega (arith, mul-le-mul_right c.args.u (le_of_lt c.requires.0))
 
 returns : tie.Need-returns

@@ -11,11 +11,11 @@ use Rattle.length.proofs.Shift.{in_float_lem, power_in_float, half_le, shifted, 
 use Rattle.length.proofs.root.Statement.{statement}
 use Rattle.length.proofs.root.Tie as tie
 
-positive : (c : tie.Else1) → 0 < c.before.args.n
-positive c = omega (arith, c.if1.false)
+positive : (c : tie.Else-n-eq0) → 0 < c.args.n
+positive c = omega (arith, c.if-n-eq0.false)
 
-digits_are : (c : tie.After-digits) → c.digits.result ≡ significand binary64 c.before.before.args.n
-digits_are c = c.digits.ensures ∙ significand_is_digits _ (positive c.before) c.before.before.ranges.n.fits
+digits_are : (c : tie.After-digits-a) → c.digits-a.result ≡ significand binary64 c.args.n
+digits_are c = c.digits-a.ensures ∙ significand_is_digits _ (positive c.before) c.ranges.n.fits
 
 at_zero : of_bits binary64 0 ≡ root binary64 0
 unfolding of_bits root
@@ -25,40 +25,40 @@ at_zero = refl
 both : (n : ℕ) → n < 2 ^ 64 → (r : Float) → r ≡ root binary64 n → (r ≡ root binary64 n) × (0 < n → NearestRoot binary64 0 n r)
 both n h r q = (q, λ p. rw q (root_nearest n p h))
 
-returns : tie.Need-returns
-returns c = both _ c.before.ranges.n.fits _ (rw c.if1.true at_zero)
+returns : tie.Need-returns-then-n-eq0
+returns c = both _ c.ranges.n.fits _ (rw c.if-n-eq0.true at_zero)
 
-mul-digits : tie.Need-overflow-mul-digits
-mul-digits c = omega (arith, half_le _ (positive c) c.before.ranges.n.fits)
+mul-digits : tie.Need-overflow_mul-half
+mul-digits c = omega (arith, half_le _ (positive c) c.ranges.n.fits)
 
-cast-digits : tie.Need-overflow-cast-digits
-cast-digits c = omega (arith, half_le _ (positive c) c.before.ranges.n.fits)
+cast-digits : tie.Need-overflow_cast-half
+cast-digits c = omega (arith, half_le _ (positive c) c.ranges.n.fits)
 
-shl-digits : tie.Need-overflow-shl-digits
-shl-digits c = omega (arith, half_le _ (positive c) c.before.ranges.n.fits)
+shl-digits : tie.Need-overflow_shl-n
+shl-digits c = omega (arith, half_le _ (positive c) c.ranges.n.fits)
 
-digits-requires : tie.Need-digits-requires
-digits-requires c κs = rw (shifted _ (positive c) c.before.ranges.n.fits) (shifted_ge _ (positive c) c.before.ranges.n.fits)
+digits-requires : tie.Need-digits-a-requires
+digits-requires c κs = rw (shifted _ (positive c) c.ranges.n.fits) (shifted_ge _ (positive c) c.ranges.n.fits)
 
-int-to-float-result : tie.Need-int-to-float-result
-int-to-float-result c = in_float_lem _ _ (digits_are c.before) (digits_fit _ (positive c.before.before) c.before.before.before.ranges.n.fits)
+int-to-float-result : tie.Need-int_to_float-result
+int-to-float-result c = in_float_lem _ _ (digits_are c.before) (digits_fit _ (positive c.before.before) c.ranges.n.fits)
 
-add-result : tie.Need-overflow-add-result
-add-result c = omega (arith, half_le _ (positive c.before.before) c.before.before.before.ranges.n.fits)
+add-result : tie.Need-overflow_add-result
+add-result c = omega (arith, half_le _ (positive c.before.before) c.ranges.n.fits)
 
-cast-result : tie.Need-overflow-cast-result
-cast-result c = omega (arith, half_le _ (positive c.before.before) c.before.before.before.ranges.n.fits)
+cast-result : tie.Need-overflow_cast-result
+cast-result c = omega (arith, half_le _ (positive c.before.before) c.ranges.n.fits)
 
-shl-result : tie.Need-overflow-shl-result
-shl-result c = omega (arith, half_le _ (positive c.before.before) c.before.before.before.ranges.n.fits)
+shl-result : tie.Need-overflow_shl-result
+shl-result c = omega (arith, half_le _ (positive c.before.before) c.ranges.n.fits)
 
-int-to-float-result-2 : tie.Need-int-to-float-result-2
-int-to-float-result-2 c = power_in_float _ (omega (arith, half_le _ (positive c.before.before.before) c.before.before.before.before.ranges.n.fits))
+int-to-float-result-2 : tie.Need-int_to_float-result-2
+int-to-float-result-2 c = power_in_float _ (omega (arith, half_le _ (positive c.before.before.before) c.ranges.n.fits))
 
-returns-2 : tie.Need-returns-2
+returns-2 : tie.Need-returns
 returns-2 c =
     let p = positive c.before.before.before in
-    let w = c.before.before.before.before.ranges.n.fits in
+    let w = c.ranges.n.fits in
     both _ w _ (ap₂ (λ (a b : ℕ). div binary64 (of_int binary64 (pos a)) (of_int binary64 (pos b))) (digits_are c.before.before) (power_is_places _ p w) ∙ quotient_is_root _ p w)
 
 pub root_spec : {M : Type 1} → statement M

@@ -9,8 +9,8 @@ use Rattle.length_vectors.proofs.bits.Tie as tie
 length-requires : tie.Need-length-requires
 length-requires c κs = search rules
 
-float-to-bits-result : tie.Need-float-to-bits-result
-float-to-bits-result c = rw c.length.ensures.0 (length_number grid_exponent (lit≤ tt) _ c.before.ranges.n.fits)
+float-to-bits-result : tie.Need-float_to_bits-result
+float-to-bits-result c = rw c.length.ensures.0 (length_number grid_exponent (lit≤ tt) _ c.ranges.n.fits)
 
 returns : tie.Need-returns
 returns c = search rules

@@ -5,31 +5,31 @@ use lib.ListN.{length}
 use Rattle.length_vectors.proofs.misses.Statement.{statement}
 use Rattle.length_vectors.proofs.misses.Tie as tie
 
-abbrev invariant_loop : tie.invariant_loop
+abbrev invariant_loop : tie.invariant-loop-at
 invariant_loop s wrong₀ at₀ wrong at = (at ≤ length s) × (wrong ≤ at)
 
-abbrev decreases_loop : tie.decreases_loop
+abbrev decreases_loop : tie.decreases-loop-at
 decreases_loop s wrong₀ at₀ wrong at = length s - at
 
-loop-holds : tie.Need-loop-init invariant_loop decreases_loop
+loop-holds : tie.Need-loop-at-init invariant_loop decreases_loop
 loop-holds c = omega arith
 
-sub-loop : tie.Need-overflow-sub-loop invariant_loop decreases_loop
+sub-loop : tie.Need-overflow_sub-s invariant_loop decreases_loop
 sub-loop c = omega arith
 
-miss-requires : tie.Need-miss-requires invariant_loop decreases_loop
+miss-requires : tie.Need-miss-wrong-requires invariant_loop decreases_loop
 miss-requires c κs = tt
 
-add-wrong : tie.Need-overflow-add-wrong invariant_loop decreases_loop
+add-wrong : tie.Need-overflow_add-wrong invariant_loop decreases_loop
 add-wrong c = omega arith
 
-add_at : tie.Need-overflow-add-at invariant_loop decreases_loop
+add_at : tie.Need-overflow_add-at invariant_loop decreases_loop
 add_at c = omega arith
 
-loop-less : tie.Need-loop-smaller invariant_loop decreases_loop
+loop-less : tie.Need-loop-at-smaller invariant_loop decreases_loop
 loop-less c = omega arith
 
-loop-again : tie.Need-loop-preserved invariant_loop decreases_loop
+loop-again : tie.Need-loop-at-preserved invariant_loop decreases_loop
 loop-again c = omega arith
 
 returns : tie.Need-returns invariant_loop decreases_loop

@@ -5,14 +5,14 @@ use Rattle.grid.specs.Grid.{place_at}
 use Rattle.numbers_c.proofs.numbers_c_read_place.Statement.{statement}
 use Rattle.numbers_c.proofs.numbers_c_read_place.Tie as tie
 
-read-place-requires : tie.Need-read-place-requires
+read-place-requires : tie.Need-read_place-requires
 read-place-requires c κs = search rules
 
-place-number-requires : tie.Need-place-number-requires
+place-number-requires : tie.Need-place_number-requires
 place-number-requires c κs = search rules
 
 returns : tie.Need-returns
-returns c = c.place-number.ensures ∙ ap place_at c.before.read-place.ensures
+returns c = c.place_number.ensures ∙ ap place_at c.read_place.ensures
 
 pub numbers_c_read_place_spec : {M : Type 1} → statement M
 numbers_c_read_place_spec = tie.close (tie.spec read-place-requires place-number-requires returns)

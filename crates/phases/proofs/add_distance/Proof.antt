@@ -12,27 +12,25 @@ use Rattle.repair_search.proofs.Search.{goal_same}
 use Rattle.phases.proofs.add_distance.Statement.{statement}
 use Rattle.phases.proofs.add_distance.Tie as tie
 
-search-from-requires : tie.Need-search-from-requires
-search-from-requires c κs = let b = c.before.before.before in ((b.requires.0.0, b.requires.0.2), b.requires.1)
+search-from-requires : tie.Need-search_from-count-requires
+search-from-requires c κs = ((c.requires.0.0, c.requires.0.2), c.requires.1)
 
-mul-found : tie.Need-overflow-mul-found
-mul-found c = let b = c.before.before.before.before in omega (arith, b.requires.0.1, b.requires.1.edges.few_nodes)
+mul-found : tie.Need-offset_bounds-dist-to
+mul-found c = omega (arith, c.requires.0.1, c.requires.1.edges.few_nodes)
 
-element-copy-out-found : tie.Need-element-copy-out-found
-element-copy-out-found c = let b = c.before.before.before.before in omega (arith, b.requires.0.1, b.requires.1.edges.few_nodes)
+element-copy-out-found : tie.Need-bounds-dist-to
+element-copy-out-found c = omega (arith, c.requires.0.1, c.requires.1.edges.few_nodes)
 
 clear-requires : tie.Need-clear-requires
-clear-requires c κs = (c.before.before.before.before.before.before.before.before.requires.1.edges.few_nodes, c.before.before.before.before.search-from.ensures.1)
+clear-requires c κs = (c.requires.1.edges.few_nodes, c.search_from-count.ensures.1)
 
 returns : tie.Need-returns
 returns c =
-    let f = c.before.before.before.before.before in
-    let b = f.before.before.before.before in
-    let es = edges_in b.args.m (adjacency b.args.ends.now b.args.weights.now b.args.next.now b.args.heads.now) in
-    let ds = f.search-from.new.1.1.1.1.1.1.0 in
-    let at : b.args.to < length ds = omega (arith, b.requires.0.1, b.requires.1.edges.few_nodes, f.search-from.ensures.0.long) in
-    let same = goal_same es b.args.from b.args.to ds f.search-from.ensures.0 b.args.n b.requires.1.searchable.inside b.requires.1.searchable.weights b.requires.0.0 in
-    (ap (add binary64 b.args.sum) (get_d_inside ds b.args.to nan infinity at ∙ same), c.clear.ensures)
+    let es = edges_in c.args.m (adjacency c.args.ends.now c.args.weights.now c.args.next.now c.args.heads.now) in
+    let ds = c.search_from-count.new.dist in
+    let at : c.args.to < length ds = omega (arith, c.requires.0.1, c.requires.1.edges.few_nodes, c.search_from-count.ensures.0.long) in
+    let same = goal_same es c.args.from c.args.to ds c.search_from-count.ensures.0 c.args.n c.requires.1.searchable.inside c.requires.1.searchable.weights c.requires.0.0 in
+    (ap (add binary64 c.args.sum) (get_d_inside ds c.args.to nan infinity at ∙ same), c.clear.ensures)
 
 pub add_distance_spec : {M : Type 1} → statement M
 add_distance_spec =

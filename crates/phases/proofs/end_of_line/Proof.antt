@@ -15,48 +15,44 @@ use Rattle.phases.proofs.end_of_line.Tie as tie
 abbrev points : tie.Start → List Point
 points b = line_of (settings_of b.args.settings) (nodes_in b.args.n b.args.xs.now b.args.ys.now) (edges_in b.args.m (adjacency b.args.ends.now b.args.weights.now b.args.next.now b.args.heads.now))
 
-abbrev line : tie.After-line-of → List ℕ
-line c = c.Line-of.new.1.1.1.1.1.1.1.1.1.0
+abbrev line : tie.After-line_of-count → List ℕ
+line c = c.line_of-count.new.line
 
 -- the last node
-below : (c : tie.After-wide) → c.wide.result < c.before.before.before.before.before.before.before.before.args.n
-below c = let f = c.before.before in omega (arith, c.wide.ensures, f.Line-of.ensures.1.nodes_in_known (f.Line-of.result - 1) (omega (arith, c.before.if1.false)))
+below : (c : tie.After-wide-v) → c.wide-v.result < c.args.n
+below c = omega (arith, c.wide-v.ensures, c.line_of-count.ensures.1.nodes_in_known (c.line_of-count.result - 1) (omega (arith, c.if-count-eq0.false)))
 
-line-of-requires : tie.Need-line-of-requires
+line-of-requires : tie.Need-line_of-count-requires
 line-of-requires c κs = search rules
 
-returns : tie.Need-returns
+returns : tie.Need-returns-then-count-eq0
 returns c =
-    let f = c.before in
-    let b = f.before.before.before.before.before.before in
-    line_none b.args.n b.args.xs.now b.args.ys.now (line f) f.Line-of.result (points b) f.Line-of.ensures.1 f.Line-of.ensures.0 b.args.retrace c.if1.true
+    line_none c.args.n c.args.xs.now c.args.ys.now (line c.before) c.line_of-count.result (points c.before.before.before.before.before.before.before) c.line_of-count.ensures.1 c.line_of-count.ensures.0 c.args.retrace c.if-count-eq0.true
 
-sub_wide : tie.Need-overflow-sub-wide
+sub_wide : tie.Need-overflow_sub-count
 sub_wide c = search rules
 
-mul_wide : tie.Need-overflow-mul-wide
+mul_wide : tie.Need-offset_bounds-line-count
 mul_wide c = search rules
 
-array-read-wide : tie.Need-array-read-wide
+array-read-wide : tie.Need-bounds-line-count
 array-read-wide c = search rules
 
-wide-requires : tie.Need-wide-requires
+wide-requires : tie.Need-wide-v-requires
 wide-requires c κs = search rules
 
-mul-wide-2 : tie.Need-overflow-mul-wide-2
-mul-wide-2 c = let f = c.before.before in omega (arith, f.before.before.before.before.before.before.requires.1.0.few, below c)
+mul-wide-2 : tie.Need-offset_bounds-xs-v
+mul-wide-2 c = omega (arith, c.requires.1.0.few, below c)
 
-element-copy-out-wide : tie.Need-element-copy-out-wide
-element-copy-out-wide c = let f = c.before.before in omega (arith, f.before.before.before.before.before.before.requires.1.0.few, below c)
+element-copy-out-wide : tie.Need-bounds-xs-v
+element-copy-out-wide c = omega (arith, c.requires.1.0.few, below c.before)
 
-wide-requires-2 : tie.Need-wide-requires-2
+wide-requires-2 : tie.Need-wide-x-requires
 wide-requires-2 c κs = search rules
 
-returns-2 : tie.Need-returns-2
+returns-2 : tie.Need-returns
 returns-2 c =
-    let f = c.before.before.before.before in
-    let b = f.before.before.before.before.before.before in
-    line_some b.args.n b.args.xs.now b.args.ys.now (line f) f.Line-of.result (points b) f.Line-of.ensures.1 f.Line-of.ensures.0 b.args.retrace (omega (arith, c.before.before.before.if1.false)) c.before.before.wide.result c.wide2.result c.before.before.wide.ensures c.wide2.ensures
+    line_some c.args.n c.args.xs.now c.args.ys.now (line c.before.before.before.before.before) c.line_of-count.result (points c.before.before.before.before.before.before.before.before.before.before.before) c.line_of-count.ensures.1 c.line_of-count.ensures.0 c.args.retrace (omega (arith, c.if-count-eq0.false)) c.wide-v.result c.wide-x.result c.wide-v.ensures c.wide-x.ensures
 
 pub end_of_line_spec : {M : Type 1} → statement M
 end_of_line_spec =

@@ -14,48 +14,40 @@ use Rattle.phases.proofs.end_of_odd.Tie as tie
 abbrev entry : tie.Start → Adjacency
 entry b = adjacency b.args.ends.now b.args.weights.now b.args.next.now b.args.heads.now
 
-abbrev listed : tie.After-odd-nodes → List ℕ
-listed c = c.odd-nodes.new.1.1.1.1.1.1.0
+abbrev listed : tie.After-odd_nodes-odd → List ℕ
+listed c = c.odd_nodes-odd.new.odd
 
-odd-nodes-requires : tie.Need-odd-nodes-requires
+odd-nodes-requires : tie.Need-odd_nodes-odd-requires
 odd-nodes-requires c κs = search rules
 
 made-requires : tie.Need-made-requires
 made-requires c κs = search rules
 
-returns : tie.Need-returns
+returns : tie.Need-returns-then-odd-eq0
 returns c =
-    let f = c.before.before in
-    let b = f.before.before in
-    c.made.ensures ∙ odd_none b.args.n (edges_in b.args.m (entry b)) (listed f) f.odd-nodes.result f.odd-nodes.ensures c.before.if1.true
+    c.made.ensures ∙ odd_none c.args.n (edges_in c.args.m (entry c.before.before.before.before)) (listed c.before.before) c.odd_nodes-odd.result c.odd_nodes-odd.ensures c.if-odd-eq0.true
 
-sub_wide : tie.Need-overflow-sub-wide
+sub_wide : tie.Need-overflow_sub-odd
 sub_wide c = search rules
 
-mul_wide : tie.Need-overflow-mul-wide
+mul_wide : tie.Need-offset_bounds-listed-odd
 mul_wide c =
-    let f = c.before in
-    let b = f.before.before in
-    omega (arith, c.if1.false, f.odd-nodes.ensures.counts, odd_few (edges_in b.args.m (entry b)) b.args.n, b.requires.few_nodes)
+    omega (arith, c.if-odd-eq0.false, c.odd_nodes-odd.ensures.counts, odd_few (edges_in c.args.m (entry c.before.before.before)) c.args.n, c.requires.few_nodes)
 
-array-read-wide : tie.Need-array-read-wide
+array-read-wide : tie.Need-bounds-listed-odd
 array-read-wide c =
-    let f = c.before in
-    let b = f.before.before in
-    omega (arith, c.if1.false, f.odd-nodes.ensures.counts, odd_few (edges_in b.args.m (entry b)) b.args.n, b.requires.few_nodes)
+    omega (arith, c.if-odd-eq0.false, c.odd_nodes-odd.ensures.counts, odd_few (edges_in c.args.m (entry c.before.before.before)) c.args.n, c.requires.few_nodes)
 
-wide-requires : tie.Need-wide-requires
+wide-requires : tie.Need-wide-last-requires
 wide-requires c κs = search rules
 
 made-requires-2 : tie.Need-made-requires-2
 made-requires-2 c κs = search rules
 
-returns-2 : tie.Need-returns-2
+returns-2 : tie.Need-returns
 returns-2 c =
-    let f = c.before.before.before in
-    let b = f.before.before in
-    c.made2.ensures
-    ∙ odd_some b.args.n (edges_in b.args.m (entry b)) (listed f) f.odd-nodes.result f.odd-nodes.ensures (omega (arith, c.before.before.if1.false)) c.before.wide.result c.before.wide.ensures
+    c.made-2.ensures
+    ∙ odd_some c.args.n (edges_in c.args.m (entry c.before.before.before.before.before)) (listed c.before.before.before) c.odd_nodes-odd.result c.odd_nodes-odd.ensures (omega (arith, c.if-odd-eq0.false)) c.wide-last.result c.wide-last.ensures
 
 pub end_of_odd_spec : {M : Type 1} → statement M
 end_of_odd_spec =

@@ -14,73 +14,62 @@ use Rattle.phases.proofs.end_of_pairs.Tie as tie
 abbrev entry : tie.Start → Adjacency
 entry b = adjacency b.args.ends.now b.args.weights.now b.args.next.now b.args.heads.now
 
-abbrev start : tie.After-find-pairs → tie.Start
-start c = c.before.before.before.before.before.before.before
-
 -- the pairs as they stand in the two arrays
-abbrev firsts : tie.After-find-pairs → List ℕ
-firsts c = c.find-pairs.new.1.1.1.1.1.1.1.1.1.1.1.0
+abbrev firsts : tie.After-find_pairs-pairs → List ℕ
+firsts c = c.find_pairs-pairs.new.firsts
 
-abbrev seconds : tie.After-find-pairs → List ℕ
-seconds c = c.find-pairs.new.1.1.1.1.1.1.1.1.1.1.1.1.0
+abbrev seconds : tie.After-find_pairs-pairs → List ℕ
+seconds c = c.find_pairs-pairs.new.seconds
 
-find-pairs-requires : tie.Need-find-pairs-requires
-find-pairs-requires c κs = let b = c.before.before.before.before.before.before in (b.requires.0, (b.requires.1, pairs_room))
+find-pairs-requires : tie.Need-find_pairs-pairs-requires
+find-pairs-requires c κs = (c.requires.0, (c.requires.1, pairs_room))
 
-enum-known-pairs : tie.Need-enum-known-pairs
+enum-known-pairs : tie.Need-enum_known-pairs
 enum-known-pairs c = search rules
 
 refused-requires : tie.Need-refused-requires
 refused-requires c κs = search rules
 
-enum-known-pairs-2 : tie.Need-enum-known-pairs-2
+enum-known-pairs-2 : tie.Need-enum_known-pairs-in-Found-1
 enum-known-pairs-2 c = search rules
 
 made-requires : tie.Need-made-requires
 made-requires c κs = search rules
 
-same_length : tie.Need-same-length
+same_length : tie.Need-shape_of-floats-then-last-eq-PAIRS
 same_length c = search rules
 
-same-length-2 : tie.Need-same-length-2
+same-length-2 : tie.Need-shape_of-bytes-then-last-eq-PAIRS
 same-length-2 c = search rules
 
-returns : tie.Need-returns
+returns : tie.Need-returns-then-last-eq-PAIRS
 returns c =
-    let f = c.before.before.before.before.before.before.before.before.before in
-    let b = start f in
-    c.made.ensures ∙ pairs_found b.args.n b.args.m b.args.xs.now b.args.ys.now (entry b) (settings_of b.args.settings) (length b.args.floats.now) (length b.args.bytes.now) b.args.last f.find-pairs.result (firsts f) (seconds f) f.find-pairs.ensures _ _ c.before.before.before.pairs2.given.1 c.before.if1.true
+    c.made.ensures ∙ pairs_found c.args.n c.args.m c.args.xs.now c.args.ys.now (entry c.before.before.before.before.before.before.before.before.before.before.before.before.before.before) (settings_of c.args.settings) (length c.args.floats.now) (length c.args.bytes.now) c.args.last c.find_pairs-pairs.result (firsts c.before.before.before.before.before.before.before) (seconds c.before.before.before.before.before.before.before) c.find_pairs-pairs.ensures _ _ c.in-Found.is c.if-last-eq-PAIRS.true
 
-search-pairs-requires : tie.Need-search-pairs-requires
+search-pairs-requires : tie.Need-search_pairs-total-requires
 search-pairs-requires c κs =
-    let f = c.before.before.before.before.before.before.before.before.before.before in
-    let b = start f in
-    let U = usable b.args.n b.args.m b.args.xs.now b.args.ys.now (entry b) (settings_of b.args.settings) (length b.args.floats.now) (length b.args.bytes.now) b.args.last f.find-pairs.result (firsts f) (seconds f) f.find-pairs.ensures _ _ c.before.before.before.before.pairs2.given.1 b.pre.1 in
-    ((U.few, U.nodes), b.pre.1)
+    let U = usable c.args.n c.args.m c.args.xs.now c.args.ys.now (entry c.before.before.before.before.before.before.before.before.before.before.before.before.before.before.before) (settings_of c.args.settings) (length c.args.floats.now) (length c.args.bytes.now) c.args.last c.find_pairs-pairs.result (firsts c.before.before.before.before.before.before.before.before) (seconds c.before.before.before.before.before.before.before.before) c.find_pairs-pairs.ensures _ _ c.in-Found.is c.requires.1 in
+    ((U.few, U.nodes), c.requires.1)
 
-same-length-3 : tie.Need-same-length-3
+same-length-3 : tie.Need-shape_of-floats-in-Refused
 same-length-3 c = search rules
 
-same-length-4 : tie.Need-same-length-4
+same-length-4 : tie.Need-shape_of-bytes-in-Refused
 same-length-4 c = search rules
 
-returns-2 : tie.Need-returns-2
+returns-2 : tie.Need-returns-in-Refused
 returns-2 c =
-    let f = c.before.before.before.before.before.before.before.before in
-    let b = start f in
-    c.refused.ensures ∙ pairs_refused b.args.n b.args.m b.args.xs.now b.args.ys.now (entry b) (settings_of b.args.settings) (length b.args.floats.now) (length b.args.bytes.now) b.args.last f.find-pairs.result (firsts f) (seconds f) f.find-pairs.ensures _ c.before.before.pairs.given.1
+    c.refused.ensures ∙ pairs_refused c.args.n c.args.m c.args.xs.now c.args.ys.now (entry c.before.before.before.before.before.before.before.before.before.before.before.before.before) (settings_of c.args.settings) (length c.args.floats.now) (length c.args.bytes.now) c.args.last c.find_pairs-pairs.result (firsts c.before.before.before.before.before.before) (seconds c.before.before.before.before.before.before) c.find_pairs-pairs.ensures _ c.in-Refused.is
 
-same-length-5 : tie.Need-same-length-5
+same-length-5 : tie.Need-shape_of-floats-else-last-eq-PAIRS
 same-length-5 c = search rules
 
-same-length-6 : tie.Need-same-length-6
+same-length-6 : tie.Need-shape_of-bytes-else-last-eq-PAIRS
 same-length-6 c = search rules
 
-returns-3 : tie.Need-returns-3
+returns-3 : tie.Need-returns-else-last-eq-PAIRS
 returns-3 c =
-    let f = c.before.before.before.before.before.before.before.before.before.before.before in
-    let b = start f in
-    pairs_searched b.args.n b.args.m b.args.xs.now b.args.ys.now (entry b) (settings_of b.args.settings) (length b.args.floats.now) (length b.args.bytes.now) b.args.last f.find-pairs.result (firsts f) (seconds f) f.find-pairs.ensures _ _ c.before.before.before.before.before.pairs2.given.1 c.before.before.before.if1.false _ c.search-pairs.ensures
+    pairs_searched c.args.n c.args.m c.args.xs.now c.args.ys.now (entry c.before.before.before.before.before.before.before.before.before.before.before.before.before.before.before.before) (settings_of c.args.settings) (length c.args.floats.now) (length c.args.bytes.now) c.args.last c.find_pairs-pairs.result (firsts c.before.before.before.before.before.before.before.before.before) (seconds c.before.before.before.before.before.before.before.before.before) c.find_pairs-pairs.ensures _ _ c.in-Found.is c.if-last-eq-PAIRS.false _ c.search_pairs-total.ensures
 
 pub end_of_pairs_spec : {M : Type 1} → statement M
 end_of_pairs_spec =

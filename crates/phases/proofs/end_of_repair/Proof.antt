@@ -13,68 +13,56 @@ use Rattle.phases.proofs.end_of_repair.Tie as tie
 abbrev entry : tie.Start → Adjacency
 entry b = adjacency b.args.ends.now b.args.weights.now b.args.next.now b.args.heads.now
 
-abbrev start : tie.After-fix-parity → tie.Start
-start c = c.before.before.before.before.before.before.before.before.before
-
 -- the arrays after repair
-abbrev after : tie.After-fix-parity → Adjacency
+abbrev after : tie.After-fix_parity-repair → Adjacency
 after c =
-    let l = c.fix-parity.new.1.1 in
-    adjacency l.0 l.1.0 l.1.1.0 l.1.1.1.0
+    adjacency c.fix_parity-repair.new.ends c.fix_parity-repair.new.weights c.fix_parity-repair.new.next c.fix_parity-repair.new.heads
 
-fix-parity-requires : tie.Need-fix-parity-requires
-fix-parity-requires c κs = let b = c.before.before.before.before.before.before.before.before in (omega arith, b.requires.nodes, b.requires.edges)
+fix-parity-requires : tie.Need-fix_parity-repair-requires
+fix-parity-requires c κs = (omega arith, c.requires.nodes, c.requires.edges)
 
-enum-known-parity : tie.Need-enum-known-parity
+enum-known-parity : tie.Need-enum_known-parity
 enum-known-parity c = search rules
 
 refused-requires : tie.Need-refused-requires
 refused-requires c κs = search rules
 
-enum-known-parity-2 : tie.Need-enum-known-parity-2
+enum-known-parity-2 : tie.Need-enum_known-parity-in-Repaired-1
 enum-known-parity-2 c = search rules
 
-same_length : tie.Need-same-length
+same_length : tie.Need-shape_of-floats-then-last-eq-REPAIR
 same_length c = search rules
 
-same-length-2 : tie.Need-same-length-2
+same-length-2 : tie.Need-shape_of-bytes-then-last-eq-REPAIR
 same-length-2 c = search rules
 
-returns : tie.Need-returns
+returns : tie.Need-returns-then-last-eq-REPAIR
 returns c =
-    let f = c.before.before.before.before.before.before.before.before in
-    let b = start f in
-    repair_done (graph_in b.args.n b.args.m b.args.xs.now b.args.ys.now (entry b)) (settings_of b.args.settings) (length b.args.floats.now) (length b.args.bytes.now) b.args.last f.fix-parity.result (after f) f.fix-parity.ensures.0 _ _ _ c.before.before.parity2.given.1 c.if1.true
+    repair_done (graph_in c.args.n c.args.m c.args.xs.now c.args.ys.now (entry c.before.before.before.before.before.before.before.before.before.before.before.before.before.before.before)) (settings_of c.args.settings) (length c.args.floats.now) (length c.args.bytes.now) c.args.last c.fix_parity-repair.result (after c.before.before.before.before.before.before) c.fix_parity-repair.ensures.0 _ _ _ c.in-Repaired.is c.if-last-eq-REPAIR.true
 
-end-of-line-requires : tie.Need-end-of-line-requires
+end-of-line-requires : tie.Need-end_of_line-requires
 end-of-line-requires c κs =
-    let f = c.before.before.before.before.before.before.before.before.before.before.before.before in
-    let b = start f in
-    ((b.pre.wide, b.pre.high), (b.pre.nodes, held (graph_in b.args.n b.args.m b.args.xs.now b.args.ys.now (entry b)) (settings_of b.args.settings) (length b.args.floats.now) (length b.args.bytes.now) b.args.last f.fix-parity.result (after f) f.fix-parity.ensures.0 _ _ _ c.before.before.before.before.before.before.parity2.given.1 b.args.n f.fix-parity.ensures.1))
+    ((c.requires.wide, c.requires.high), (c.requires.nodes, held (graph_in c.args.n c.args.m c.args.xs.now c.args.ys.now (entry c.before.before.before.before.before.before.before.before.before.before.before.before.before.before.before.before.before.before.before)) (settings_of c.args.settings) (length c.args.floats.now) (length c.args.bytes.now) c.args.last c.fix_parity-repair.result (after c.before.before.before.before.before.before.before.before.before.before) c.fix_parity-repair.ensures.0 _ _ _ c.in-Repaired.is c.args.n c.fix_parity-repair.ensures.1))
 
-same-length-3 : tie.Need-same-length-3
+same-length-3 : tie.Need-shape_of-floats-in-Refused
 same-length-3 c = search rules
 
-same-length-4 : tie.Need-same-length-4
+same-length-4 : tie.Need-shape_of-bytes-in-Refused
 same-length-4 c = search rules
 
-returns-2 : tie.Need-returns-2
+returns-2 : tie.Need-returns-in-Refused
 returns-2 c =
-    let f = c.before.before.before.before.before.before.before.before in
-    let b = start f in
-    c.refused.ensures ∙ repair_refused (graph_in b.args.n b.args.m b.args.xs.now b.args.ys.now (entry b)) (settings_of b.args.settings) (length b.args.floats.now) (length b.args.bytes.now) b.args.last f.fix-parity.result (after f) f.fix-parity.ensures.0 _ c.before.before.parity.given.1
+    c.refused.ensures ∙ repair_refused (graph_in c.args.n c.args.m c.args.xs.now c.args.ys.now (entry c.before.before.before.before.before.before.before.before.before.before.before.before.before.before.before)) (settings_of c.args.settings) (length c.args.floats.now) (length c.args.bytes.now) c.args.last c.fix_parity-repair.result (after c.before.before.before.before.before.before) c.fix_parity-repair.ensures.0 _ c.in-Refused.is
 
-same-length-5 : tie.Need-same-length-5
+same-length-5 : tie.Need-shape_of-floats-else-last-eq-REPAIR
 same-length-5 c = search rules
 
-same-length-6 : tie.Need-same-length-6
+same-length-6 : tie.Need-shape_of-bytes-else-last-eq-REPAIR
 same-length-6 c = search rules
 
-returns-3 : tie.Need-returns-3
+returns-3 : tie.Need-returns-else-last-eq-REPAIR
 returns-3 c =
-    let f = c.before.before.before.before.before.before.before.before.before.before.before.before.before in
-    let b = start f in
-    line_done (graph_in b.args.n b.args.m b.args.xs.now b.args.ys.now (entry b)) (settings_of b.args.settings) (length b.args.floats.now) (length b.args.bytes.now) b.args.last f.fix-parity.result (after f) f.fix-parity.ensures.0 _ _ _ c.before.before.before.before.before.before.before.parity2.given.1 c.before.before.before.before.before.if1.false _ c.end-of-line.ensures
+    line_done (graph_in c.args.n c.args.m c.args.xs.now c.args.ys.now (entry c.before.before.before.before.before.before.before.before.before.before.before.before.before.before.before.before.before.before.before.before)) (settings_of c.args.settings) (length c.args.floats.now) (length c.args.bytes.now) c.args.last c.fix_parity-repair.result (after c.before.before.before.before.before.before.before.before.before.before.before) c.fix_parity-repair.ensures.0 _ _ _ c.in-Repaired.is c.if-last-eq-REPAIR.false _ c.end_of_line.ensures
 
 pub end_of_repair_spec : {M : Type 1} → statement M
 end_of_repair_spec =

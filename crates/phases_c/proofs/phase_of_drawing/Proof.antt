@@ -8,36 +8,32 @@ use Rattle.phases_c.proofs.Phases.{read_stops, graph_follows}
 use Rattle.phases_c.proofs.phase_of_drawing.Statement.{statement}
 use Rattle.phases_c.proofs.phase_of_drawing.Tie as tie
 
-abbrev edges : tie.After-build-graph → Adjacency
-edges c = let l = c.build-graph.new.1.1.1.1 in adjacency l.0 l.1.0 l.1.1.0 l.1.1.1.0
+abbrev edges : tie.After-build_graph-t → Adjacency
+edges c = adjacency c.build_graph-t.new.ends c.build_graph-t.new.weights c.build_graph-t.new.next c.build_graph-t.new.heads
 
 made-requires : tie.Need-made-requires
 made-requires c κs = search rules
 
-returns : tie.Need-returns
-returns c = let b = c.before.before.before.before in c.made.ensures ∙ read_stops b.args.drawing (length b.args.floats.now) (length b.args.bytes.now) b.args.last c.before.if1.true
+returns : tie.Need-returns-then-last-eq-READ
+returns c = c.made.ensures ∙ read_stops c.args.drawing (length c.args.floats.now) (length c.args.bytes.now) c.args.last c.if-last-eq-READ.true
 
-build-graph-requires : tie.Need-build-graph-requires
+build-graph-requires : tie.Need-build_graph-t-requires
 unfolding lib.Ieee.of_bits
-build-graph-requires c κs = (refl, (refl, c.before.before.before.before.before.before.before.before.before.before.before.before.requires.sound))
+build-graph-requires c κs = (refl, (refl, c.requires.sound))
 
-phase-of-graph-requires : tie.Need-phase-of-graph-requires
+phase-of-graph-requires : tie.Need-phase_of_graph-requires
 phase-of-graph-requires c κs =
-    let g = c.before.before.before.before.before.before.before.before in
-    let b = g.before.before.before.before.before.before.before.before.before.before.before.before.before in
-    plannable b.args.drawing b.requires g.build-graph.result.nodes g.build-graph.result.edges g.build-graph.new.0 g.build-graph.new.1.0 (edges g) g.build-graph.ensures
+    plannable c.args.drawing c.requires c.build_graph-t.result.nodes c.build_graph-t.result.edges c.build_graph-t.new.xs c.build_graph-t.new.ys (edges c.before.before.before.before.before.before.before.before) c.build_graph-t.ensures
 
-same_length : tie.Need-same-length
+same_length : tie.Need-shape_of-floats
 same_length c = search rules
 
-same-length-2 : tie.Need-same-length-2
+same-length-2 : tie.Need-shape_of-bytes
 same-length-2 c = search rules
 
-returns-2 : tie.Need-returns-2
+returns-2 : tie.Need-returns
 returns-2 c =
-    let g = c.before.before.before.before.before.before.before.before.before.before.before.before.before in
-    let b = g.before.before.before.before.before.before.before.before.before.before.before.before.before in
-    graph_follows b.args.drawing (length b.args.floats.now) (length b.args.bytes.now) b.args.last g.before.before.before.before.before.before.before.before.before.before.if1.false g.build-graph.result.nodes g.build-graph.result.edges g.build-graph.new.0 g.build-graph.new.1.0 (edges g) g.build-graph.ensures _ c.before.before.before.before.phase-of-graph.ensures
+    graph_follows c.args.drawing (length c.args.floats.now) (length c.args.bytes.now) c.args.last c.if-last-eq-READ.false c.build_graph-t.result.nodes c.build_graph-t.result.edges c.build_graph-t.new.xs c.build_graph-t.new.ys (edges c.before.before.before.before.before.before.before.before.before.before.before.before.before) c.build_graph-t.ensures _ c.phase_of_graph.ensures
 
 pub phase_of_drawing_spec : {M : Type 1} → statement M
 phase_of_drawing_spec =

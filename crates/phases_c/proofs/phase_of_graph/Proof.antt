@@ -2,7 +2,6 @@
 use mathlib.Core.Path.{◌≡◌, ◌∙◌}
 use lib.ListN.{length}
 use borrow.Author.Rules.{rules}
-use borrow.Author.Tests.{not-true, not-false}
 use Rattle.file_records.specs.Meaning.{settings_of}
 use Rattle.graph_adjacency.specs.Lists.{Adjacency, adjacency}
 use Rattle.phases_c.proofs.Phases.{graph_stops, apart_stops, odd_stops, pairs_stop, repair_stops}
@@ -12,68 +11,57 @@ use Rattle.phases_c.proofs.phase_of_graph.Tie as tie
 abbrev entry : tie.Start → Adjacency
 entry b = adjacency b.args.ends.now b.args.weights.now b.args.next.now b.args.heads.now
 
-abbrev start : tie.After-all-reached → tie.Start
-start a = a.before.before.before.before.before.before.before.before
-
-further : (a : tie.After-all-reached) → (start a).args.last ≡ 1 → ⊥
-further a = a.before.before.before.before.before.if1.false
+further : (a : tie.After-all_reached-reached) → a.args.last ≡ 1 → ⊥
+further a = a.if-last-eq-GRAPH.false
 
 made-requires : tie.Need-made-requires
 made-requires c κs = search rules
 
-returns : tie.Need-returns
-returns c = let b = c.before.before.before.before in c.made.ensures ∙ graph_stops b.args.n b.args.m b.args.xs.now b.args.ys.now (entry b) (settings_of b.args.settings) (length b.args.floats.now) (length b.args.bytes.now) b.args.last c.before.if1.true
+returns : tie.Need-returns-then-last-eq-GRAPH
+returns c = c.made.ensures ∙ graph_stops c.args.n c.args.m c.args.xs.now c.args.ys.now (entry c.before.before.before.before) (settings_of c.args.settings) (length c.args.floats.now) (length c.args.bytes.now) c.args.last c.if-last-eq-GRAPH.true
 
-all-reached-requires : tie.Need-all-reached-requires
+all-reached-requires : tie.Need-all_reached-reached-requires
 all-reached-requires c κs = search rules
 
 refused-requires : tie.Need-refused-requires
 refused-requires c κs = search rules
 
-returns-2 : tie.Need-returns-2
+returns-2 : tie.Need-returns-then-not-reached
 returns-2 c =
-    let a = c.before.before in
-    let b = start a in
-    c.refused.ensures ∙ apart_stops b.args.n b.args.m b.args.xs.now b.args.ys.now (entry b) (settings_of b.args.settings) (length b.args.floats.now) (length b.args.bytes.now) b.args.last (further a) a.all-reached.result a.all-reached.ensures (not_true _ c.before.if2.true)
+    c.refused.ensures ∙ apart_stops c.args.n c.args.m c.args.xs.now c.args.ys.now (entry c.before.before.before.before.before.before) (settings_of c.args.settings) (length c.args.floats.now) (length c.args.bytes.now) c.args.last (further c.before.before) c.all_reached-reached.result c.all_reached-reached.ensures (c.if-not-reached.true)
 
-end-of-odd-requires : tie.Need-end-of-odd-requires
+end-of-odd-requires : tie.Need-end_of_odd-requires
 end-of-odd-requires c κs = search rules
 
-returns-3 : tie.Need-returns-3
+returns-3 : tie.Need-returns-then-last-eq-ODD
 returns-3 c =
-    let a = c.before.before.before.before.before.before.before in
-    let b = start a in
-    odd_stops b.args.n b.args.m b.args.xs.now b.args.ys.now (entry b) (settings_of b.args.settings) (length b.args.floats.now) (length b.args.bytes.now) b.args.last (further a) a.all-reached.result a.all-reached.ensures (not-false _ c.before.before.before.before.before.before.if2.false) c.before.before.before.before.before.if3.true _ c.end-of-odd.ensures
+    odd_stops c.args.n c.args.m c.args.xs.now c.args.ys.now (entry c.before.before.before.before.before.before.before) (settings_of c.args.settings) (length c.args.floats.now) (length c.args.bytes.now) c.args.last (further c.before.before.before) c.all_reached-reached.result c.all_reached-reached.ensures (c.if-not-reached.false) c.if-last-eq-ODD.true _ c.end_of_odd.ensures
 
-end-of-pairs-requires : tie.Need-end-of-pairs-requires
+end-of-pairs-requires : tie.Need-end_of_pairs-requires
 end-of-pairs-requires c κs = search rules
 
-same_length : tie.Need-same-length
+same_length : tie.Need-shape_of-floats-then-before_repair
 same_length c = search rules
 
-same-length-2 : tie.Need-same-length-2
+same-length-2 : tie.Need-shape_of-bytes-then-before_repair
 same-length-2 c = search rules
 
-returns-4 : tie.Need-returns-4
+returns-4 : tie.Need-returns-then-before_repair
 returns-4 c =
-    let a = c.before.before.before.before.before.before.before.before.before.before.before.before.before.before in
-    let b = start a in
-    pairs_stop b.args.n b.args.m b.args.xs.now b.args.ys.now (entry b) (settings_of b.args.settings) (length b.args.floats.now) (length b.args.bytes.now) b.args.last (further a) a.all-reached.result a.all-reached.ensures (not-false _ c.before.before.before.before.before.before.before.before.before.before.before.before.before.if2.false) c.before.before.before.before.before.before.before.before.before.before.before.before.if3.false c.before.before.before.before.before.before.before.before.before.before.before.if4.true _ c.before.before.before.before.end-of-pairs.ensures
+    pairs_stop c.args.n c.args.m c.args.xs.now c.args.ys.now (entry c.before.before.before.before.before.before.before.before.before.before.before.before.before.before) (settings_of c.args.settings) (length c.args.floats.now) (length c.args.bytes.now) c.args.last (further c.before.before.before.before.before.before.before.before.before.before) c.all_reached-reached.result c.all_reached-reached.ensures (c.if-not-reached.false) c.if-last-eq-ODD.false c.if-before_repair.true _ c.end_of_pairs.ensures
 
-end-of-repair-requires : tie.Need-end-of-repair-requires
+end-of-repair-requires : tie.Need-end_of_repair-requires
 end-of-repair-requires c κs = search rules
 
-same-length-3 : tie.Need-same-length-3
+same-length-3 : tie.Need-shape_of-floats
 same-length-3 c = search rules
 
-same-length-4 : tie.Need-same-length-4
+same-length-4 : tie.Need-shape_of-bytes
 same-length-4 c = search rules
 
-returns-5 : tie.Need-returns-5
+returns-5 : tie.Need-returns
 returns-5 c =
-    let a = c.before.before.before.before.before.before.before.before.before.before.before.before.before.before in
-    let b = start a in
-    repair_stops b.args.n b.args.m b.args.xs.now b.args.ys.now (entry b) (settings_of b.args.settings) (length b.args.floats.now) (length b.args.bytes.now) b.args.last (further a) a.all-reached.result a.all-reached.ensures (not-false _ c.before.before.before.before.before.before.before.before.before.before.before.before.before.if2.false) c.before.before.before.before.before.before.before.before.before.before.before.before.if3.false c.before.before.before.before.before.before.before.before.before.before.before.if4.false _ c.before.before.before.before.end-of-repair.ensures
+    repair_stops c.args.n c.args.m c.args.xs.now c.args.ys.now (entry c.before.before.before.before.before.before.before.before.before.before.before.before.before.before.before.before.before.before) (settings_of c.args.settings) (length c.args.floats.now) (length c.args.bytes.now) c.args.last (further c.before.before.before.before.before.before.before.before.before.before.before.before.before.before) c.all_reached-reached.result c.all_reached-reached.ensures (c.if-not-reached.false) c.if-last-eq-ODD.false c.if-before_repair.false _ c.end_of_repair.ensures
 
 pub phase_of_graph_spec : {M : Type 1} → statement M
 phase_of_graph_spec =

@@ -7,29 +7,27 @@ use Rattle.repair_spec.specs.Distance.{zero_length}
 use Rattle.phases_c.proofs.plan_up_to.Statement.{statement}
 use Rattle.phases_c.proofs.plan_up_to.Tie as tie
 
-phase-of-bytes-requires : tie.Need-phase-of-bytes-requires
+phase-of-bytes-requires : tie.Need-phase_of_bytes-answer-requires
 phase-of-bytes-requires c κs = search rules
 
-clear-floats-requires : tie.Need-clear-floats-requires
+clear-floats-requires : tie.Need-clear_floats-requires
 clear-floats-requires c κs = search rules
 
-clear-bytes-requires : tie.Need-clear-bytes-requires
+clear-bytes-requires : tie.Need-clear_bytes-requires
 clear-bytes-requires c κs = search rules
 
-same_length : tie.Need-same-length
+same_length : tie.Need-shape_of-floats
 same_length c = search rules
 
-same-length-2 : tie.Need-same-length-2
+same-length-2 : tie.Need-shape_of-bytes
 same-length-2 c = search rules
 
 returns : tie.Need-returns
 returns c =
-    let p = c.before.before.before.before.before.before.before.before.before.before.before.before in
-    let b = p.before.before.before.before.before.before in
-    let lf : length p.phase-of-bytes.new.1.0 ≡ length b.args.floats.now = search rules in
-    let lb : length p.phase-of-bytes.new.1.1.0 ≡ length b.args.bytes.now = search rules in (
-      p.phase-of-bytes.ensures,
-      (c.before.before.before.before.before.before.clear-floats.ensures ∙ ap (λ (k : ℕ). replicate k zero_length) lf, c.before.before.clear-bytes.ensures ∙ ap (λ (k : ℕ). replicate {A = ℕ} k 0) lb),
+    let lf : length c.phase_of_bytes-answer.new.floats ≡ length c.args.floats.now = search rules in
+    let lb : length c.phase_of_bytes-answer.new.bytes ≡ length c.args.bytes.now = search rules in (
+      c.phase_of_bytes-answer.ensures,
+      (c.clear_floats.ensures ∙ ap (λ (k : ℕ). replicate k zero_length) lf, c.clear_bytes.ensures ∙ ap (λ (k : ℕ). replicate {A = ℕ} k 0) lb),
     )
 
 pub plan_up_to_spec : {M : Type 1} → statement M

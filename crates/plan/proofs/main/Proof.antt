@@ -10,48 +10,47 @@ use Rattle.io.proofs.write_all.Reads as write-all-reads
 use Rattle.planner.proofs.plan_file.Reads as plan-file-reads
 use Rattle.planner_text.proofs.text_of.Reads as text-of-reads
 
-slice-aggregate-read-full : tie.Need-slice-aggregate-read-full
+slice-aggregate-read-full : tie.Need-slice_bounds-read_full-end
 slice-aggregate-read-full c = search rules
 
-read-full-requires : tie.Need-read-full-requires
+read-full-requires : tie.Need-read_full-n-requires
 read-full-requires c κs = search rules
 
-array-share-prefix-file : tie.Need-array-share-prefix-file
+array-share-prefix-file : tie.Need-slice_bounds-file-end
 array-share-prefix-file c = search rules
 
-slice-aggregate-plan-file : tie.Need-slice-aggregate-plan-file
+slice-aggregate-plan-file : tie.Need-slice_bounds-plan_file-end
 slice-aggregate-plan-file c = search rules
 
-slice-aggregate-plan-file-2 : tie.Need-slice-aggregate-plan-file-2
+slice-aggregate-plan-file-2 : tie.Need-slice_bounds-plan_file-end-2
 slice-aggregate-plan-file-2 c = search rules
 
-slice-aggregate-plan-file-3 : tie.Need-slice-aggregate-plan-file-3
+slice-aggregate-plan-file-3 : tie.Need-slice_bounds-plan_file-end-3
 slice-aggregate-plan-file-3 c = search rules
 
-slice-aggregate-plan-file-4 : tie.Need-slice-aggregate-plan-file-4
+slice-aggregate-plan-file-4 : tie.Need-slice_bounds-plan_file-end-4
 slice-aggregate-plan-file-4 c = search rules
 
-plan-file-requires : tie.Need-plan-file-requires
+plan-file-requires : tie.Need-plan_file-answer-requires
 plan-file-requires c κs = search rules
 
-slice-aggregate-text-of : tie.Need-slice-aggregate-text-of
+slice-aggregate-text-of : tie.Need-slice_bounds-text_of-end
 slice-aggregate-text-of c = search rules
 
-slice-aggregate-text-of-2 : tie.Need-slice-aggregate-text-of-2
+slice-aggregate-text-of-2 : tie.Need-slice_bounds-text_of-end-2
 slice-aggregate-text-of-2 c = search rules
 
-text-of-requires : tie.Need-text-of-requires
+text-of-requires : tie.Need-text_of-k-requires
 text-of-requires c κs =
-    let p = c.before.before.before.before.before.plan-file in
-    (search rules, printable _ _ _ _ _ _ _ p.result p.ensures.0 p.ensures.1.1 (search rules) (search rules))
+    (search rules, printable _ _ _ _ _ _ _ c.plan_file-answer.result c.plan_file-answer.ensures.0 c.plan_file-answer.ensures.1.1 (search rules) (search rules))
 
-array-share-prefix-text : tie.Need-array-share-prefix-text
+array-share-prefix-text : tie.Need-slice_bounds-text-end
 array-share-prefix-text c = search rules
 
-slice-aggregate-write-all : tie.Need-slice-aggregate-write-all
+slice-aggregate-write-all : tie.Need-slice_bounds-write_all-end
 slice-aggregate-write-all c = search rules
 
-write-all-requires : tie.Need-write-all-requires
+write-all-requires : tie.Need-write_all-requires
 write-all-requires c κs = search rules
 
 returns : tie.Need-returns

@@ -13,37 +13,35 @@ use Rattle.tables.proofs.clear_bytes.Reads as clear-bytes-reads
 use Rattle.tables.proofs.clear_floats.Reads as clear-floats-reads
 use Rattle.planner.proofs.plan_bytes.Reads as plan-bytes-reads
 
-plan-bytes-requires : tie.Need-plan-bytes-requires
+plan-bytes-requires : tie.Need-plan_bytes-answer-requires
 plan-bytes-requires c κs = search rules
 
-clear-floats-requires : tie.Need-clear-floats-requires
+clear-floats-requires : tie.Need-clear_floats-requires
 clear-floats-requires c κs = search rules
 
-clear-bytes-requires : tie.Need-clear-bytes-requires
+clear-bytes-requires : tie.Need-clear_bytes-requires
 clear-bytes-requires c κs = search rules
 
-same_length : tie.Need-same-length
+same_length : tie.Need-shape_of-floats
 same_length c = search rules
 
-same-length-2 : tie.Need-same-length-2
+same-length-2 : tie.Need-shape_of-bytes
 same-length-2 c = search rules
 
-same-length-3 : tie.Need-same-length-3
+same-length-3 : tie.Need-shape_of-output
 same-length-3 c = search rules
 
 returns : tie.Need-returns
 returns c =
-    let p = c.before.before.before.before.before.before.before.before.before.before.before.before.before.before in
-    let b = p.before.before.before.before.before.before.before.before in
-    let lf : length p.plan-bytes.new.1.0 ≡ length b.args.floats.now = search rules in
-    let lb : length p.plan-bytes.new.1.1.0 ≡ length b.args.bytes.now = search rules in
-    let is = p.plan-bytes.ensures.0 in (
-      after_call b.args.file.now b.args.floats.now b.args.bytes.now b.args.output.now p.plan-bytes.result _ is _ _
-          (c.before.before.before.before.before.before.clear-floats.ensures ∙ ap (λ (k : ℕ). replicate k zero_length) lf)
-          (c.before.before.clear-bytes.ensures ∙ ap (λ (k : ℕ). replicate {A = ℕ} k 0) lb),
+    let lf : length c.plan_bytes-answer.new.floats ≡ length c.args.floats.now = search rules in
+    let lb : length c.plan_bytes-answer.new.bytes ≡ length c.args.bytes.now = search rules in
+    let is = c.plan_bytes-answer.ensures.0 in (
+      after_call c.args.file.now c.args.floats.now c.args.bytes.now c.args.output.now c.plan_bytes-answer.result _ is _ _
+          (c.clear_floats.ensures ∙ ap (λ (k : ℕ). replicate k zero_length) lf)
+          (c.clear_bytes.ensures ∙ ap (λ (k : ℕ). replicate {A = ℕ} k 0) lb),
       (
-        demand_met b.args.file.now b.args.floats.now b.args.bytes.now b.args.output.now p.plan-bytes.result _ is,
-        p.plan-bytes.ensures.1,
+        demand_met c.args.file.now c.args.floats.now c.args.bytes.now c.args.output.now c.plan_bytes-answer.result _ is,
+        c.plan_bytes-answer.ensures.1,
       ),
     )
 

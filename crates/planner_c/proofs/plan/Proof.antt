@@ -5,58 +5,55 @@ use Rattle.planner_c.proofs.ExportedLaws.{output_is, floats_are, bytes_are, refu
 use Rattle.planner_c.proofs.plan.Statement.{statement}
 use Rattle.planner_c.proofs.plan.Tie as tie
 
-plan-file-requires : tie.Need-plan-file-requires
+plan-file-requires : tie.Need-plan_file-answer-requires
 plan-file-requires c κs = search rules
 
-enum-known-answer : tie.Need-enum-known-answer
+enum-known-answer : tie.Need-enum_known-answer
 enum-known-answer c = search rules
 
-cast-t18 : tie.Need-overflow-cast-t18
+cast-t18 : tie.Need-overflow_cast-result
 cast-t18 c = search rules
 
-enum-known-answer-2 : tie.Need-enum-known-answer-2
+enum-known-answer-2 : tie.Need-enum_known-answer-in-Planned-1
 enum-known-answer-2 c = search rules
 
-same_length : tie.Need-same-length
+same_length : tie.Need-shape_of-floats-in-Refused
 same_length c = search rules
 
-same-length-2 : tie.Need-same-length-2
+same-length-2 : tie.Need-shape_of-bytes-in-Refused
 same-length-2 c = search rules
 
-same-length-3 : tie.Need-same-length-3
+same-length-3 : tie.Need-shape_of-output-in-Refused
 same-length-3 c = search rules
 
-returns : tie.Need-returns
+returns : tie.Need-returns-in-Refused
 unfolding lib.Ieee.of_bits
 returns c =
-    let f = c.before.before.before.before.before.before.before.before.before in
-    let p = f.plan-file in
-    let is = p.ensures.0 in
-    let met = p.ensures.1.0 in
-    let number = p.ensures.1.1 in
-    let e = c.before.answer.given.1 in (
-      refused_exported _ _ _ _ _ _ _ p.result is met number _ (sym e),
-      (output_is _ _ _ _ _ _ _ p.result is met number, ((floats_are _ _ _ _ _ _ _ p.result is met number, bytes_are _ _ _ _ _ _ _ p.result is met number), refused_some _ _ _ _ _ _ _ p.result is met number _ (sym e))),
+    let is = c.plan_file-answer.ensures.0 in
+    let met = c.plan_file-answer.ensures.1.0 in
+    let number = c.plan_file-answer.ensures.1.1 in
+    let e = c.in-Refused.is in (
+      refused_exported _ _ _ _ _ _ _ c.plan_file-answer.result is met number _ (sym e),
+      (output_is _ _ _ _ _ _ _ c.plan_file-answer.result is met number, ((floats_are _ _ _ _ _ _ _ c.plan_file-answer.result is met number, bytes_are _ _ _ _ _ _ _ c.plan_file-answer.result is met number), refused_some _ _ _ _ _ _ _ c.plan_file-answer.result is met number _ (sym e))),
     )
 
-same-length-4 : tie.Need-same-length-4
+same-length-4 : tie.Need-shape_of-floats-in-Planned
 same-length-4 c = search rules
 
-same-length-5 : tie.Need-same-length-5
+same-length-5 : tie.Need-shape_of-bytes-in-Planned
 same-length-5 c = search rules
 
-same-length-6 : tie.Need-same-length-6
+same-length-6 : tie.Need-shape_of-output-in-Planned
 same-length-6 c = search rules
 
-returns-2 : tie.Need-returns-2
+returns-2 : tie.Need-returns-in-Planned
 returns-2 c =
-    let p = c.before.before.before.before.before.before.before.before.before.plan-file in
-    let is = p.ensures.0 in
-    let met = p.ensures.1.0 in
-    let number = p.ensures.1.1 in
-    let e = c.before.answer2.given.1 in (
-      planned_exported _ _ _ _ _ _ _ p.result is met number _ _ _ _ (sym e),
-      (output_is _ _ _ _ _ _ _ p.result is met number, ((floats_are _ _ _ _ _ _ _ p.result is met number, bytes_are _ _ _ _ _ _ _ p.result is met number), λ z. planned_demand _ _ _ _ _ _ _ p.result is met number _ _ _ _ (sym e))),
+    let is = c.plan_file-answer.ensures.0 in
+    let met = c.plan_file-answer.ensures.1.0 in
+    let number = c.plan_file-answer.ensures.1.1 in
+    let e = c.in-Planned.is in (
+      planned_exported _ _ _ _ _ _ _ c.plan_file-answer.result is met number _ _ _ _ (sym e),
+      (output_is _ _ _ _ _ _ _ c.plan_file-answer.result is met number, ((floats_are _ _ _ _ _ _ _ c.plan_file-answer.result is met number, bytes_are _ _ _ _ _ _ _ c.plan_file-answer.result is met number), λ z. planned_demand _ _ _ _ _ _ _ c.plan_file-answer.result is met number _ _ _ _ (sym e))),
     )
 
 pub plan_spec : {M : Type 1} → statement M

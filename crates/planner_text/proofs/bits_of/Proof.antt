@@ -5,7 +5,7 @@ use Rattle.sums.proofs.KeyLaws.{nonneg_number}
 use Rattle.planner_text.proofs.bits_of.Statement.{statement}
 use Rattle.planner_text.proofs.bits_of.Tie as tie
 
-float-to-bits-result : tie.Need-float-to-bits-result
+float-to-bits-result : tie.Need-float_to_bits-result
 float-to-bits-result c = nonneg_number binary64 c.args.x c.requires
 
 returns : tie.Need-returns

@@ -13,42 +13,37 @@ use Rattle.io.proofs.hex.Reads as hex-reads
 use Rattle.planner_text.proofs.put_byte.Reads as put-byte-reads
 use Rattle.planner_text.proofs.put_word.Reads as put-word-reads
 
-hex-requires : tie.Need-hex-requires
+hex-requires : tie.Need-hex-k-requires
 hex-requires c κs = search rules
 
-array-share-prefix-spelled : tie.Need-array-share-prefix-spelled
+array-share-prefix-spelled : tie.Need-slice_bounds-spelled-end
 array-share-prefix-spelled c = search rules
 
-slice-aggregate-put-word : tie.Need-slice-aggregate-put-word
+slice-aggregate-put-word : tie.Need-slice_bounds-put_word-end
 slice-aggregate-put-word c = search rules
 
-put-word-requires : tie.Need-put-word-requires
+put-word-requires : tie.Need-put_word-behind-requires
 put-word-requires c κs =
-    let d = c.before.before.hex in
-    omega (arith, d.ensures.0.1, few_digits 16 16 16 c.before.before.before.before.before.args.bits d.result (omega arith) (omega arith) (omega arith) d.ensures.1.0)
+    omega (arith, c.hex-k.ensures.0.1, few_digits 16 16 16 c.args.bits c.hex-k.result (omega arith) (omega arith) (omega arith) c.hex-k.ensures.1.0)
 
-put-byte-requires : tie.Need-put-byte-requires
+put-byte-requires : tie.Need-put_byte-requires
 put-byte-requires c κs =
-    let w = c.before.before.before in
-    let d = w.before.before.before.hex in
     omega (
       arith,
-      w.put_word.ensures.ends,
-      d.ensures.0.1,
-      few_digits 16 16 16 w.before.before.before.before.before.before.args.bits d.result (omega arith) (omega arith) (omega arith) d.ensures.1.0,
+      c.put_word-behind.ensures.ends,
+      c.hex-k.ensures.0.1,
+      few_digits 16 16 16 c.args.bits c.hex-k.result (omega arith) (omega arith) (omega arith) c.hex-k.ensures.1.0,
     )
 
-same_length : tie.Need-same-length
+same_length : tie.Need-shape_of-text
 same_length c = search rules
 
 returns : tie.Need-returns
 returns c =
-    let w = c.before.before.before.before.before.before in
-    let d = w.before.before.before.hex in
-    let few : d.result ≤ 16 = few_digits 16 16 16 w.before.before.before.before.before.before.args.bits d.result (omega arith) (omega arith) (omega arith) d.ensures.1.0 in
-    let b = c.before.before.put_byte.ensures in (
-      put_both (put_as (d.ensures.1.1 ∙ spelled_hex d.result w.before.before.before.before.before.before.args.bits (omega (arith, d.ensures.1.0.0))) w.put_word.ensures) b,
-      omega (arith, w.put_word.ensures.ends, d.ensures.0.1, b.ends),
+    let few : c.hex-k.result ≤ 16 = few_digits 16 16 16 c.args.bits c.hex-k.result (omega arith) (omega arith) (omega arith) c.hex-k.ensures.1.0 in
+    let b = c.put_byte.ensures in (
+      put_both (put_as (c.hex-k.ensures.1.1.0 ∙ spelled_hex c.hex-k.result c.args.bits (omega (arith, c.hex-k.ensures.1.0.0))) c.put_word-behind.ensures) b,
+      omega (arith, c.put_word-behind.ensures.ends, c.hex-k.ensures.0.1, b.ends),
     )
 
 pub put_bits_spec : {M : Type 1} → statement M

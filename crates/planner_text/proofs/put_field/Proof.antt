@@ -10,20 +10,20 @@ use Rattle.planner_text.proofs.put_field.Lts as lts
 use Rattle.planner_text.proofs.put_byte.Reads as put-byte-reads
 use Rattle.planner_text.proofs.put_decimal.Reads as put-decimal-reads
 
-put-decimal-requires : tie.Need-put-decimal-requires
+put-decimal-requires : tie.Need-put_decimal-behind-requires
 put-decimal-requires c κs = search rules
 
-put-byte-requires : tie.Need-put-byte-requires
+put-byte-requires : tie.Need-put_byte-requires
 put-byte-requires c κs = search rules
 
-same_length : tie.Need-same-length
+same_length : tie.Need-shape_of-text
 same_length c = search rules
 
 returns : tie.Need-returns
 unfolding field
 returns c =
-    let d = c.before.before.before.before.before.before.put-decimal.ensures in
-    let b = c.before.before.put_byte.ensures in
+    let d = c.put_decimal-behind.ensures in
+    let b = c.put_byte.ensures in
     (put_both d.0 b, omega (arith, d.1, b.ends))
 
 pub put_field_spec : {M : Type 1} → statement M

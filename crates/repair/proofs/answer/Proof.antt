@@ -8,30 +8,25 @@ use Rattle.repair.proofs.answer.Tie as tie
 abbrev entry : tie.Start → Adjacency
 entry b = adjacency b.args.ends.now b.args.weights.now b.args.next.now b.args.heads.now
 
-enum-known-laid : tie.Need-enum-known-laid
+enum-known-laid : tie.Need-enum_known-laid
 enum-known-laid c = search rules
 
-returns : tie.Need-returns
+returns : tie.Need-returns-in-Refused
 returns c =
-    let b = c.before.before.before in
-    (counted_refused b.args.n b.args.before (entry b) b.args.laid c.before.laid.given.0.0 c.before.laid.given.1, tt)
+    (counted_refused c.args.n c.args.before (entry c.before) c.args.laid c.in-Refused.number c.in-Refused.is, tt)
 
-enum-known-laid-2 : tie.Need-enum-known-laid-2
+enum-known-laid-2 : tie.Need-enum_known-laid-in-Laid-1
 enum-known-laid-2 c = search rules
 
-odd-nodes-requires : tie.Need-odd-nodes-requires
+odd-nodes-requires : tie.Need-odd_nodes-after-requires
 odd-nodes-requires c κs =
-    let b = c.before.before.before.before in
-    let l = c.before.before.laid2 in
-    (counted_held b.args.n b.args.before (entry b) b.args.laid l.given.0.0 l.given.0.1.0 l.given.1 b.requires).edges
+    (counted_held c.args.n c.args.before (entry c.before.before) c.args.laid c.in-Laid.sum c.in-Laid.edges c.in-Laid.is c.requires).edges
 
-returns-2 : tie.Need-returns-2
-returns-2 c =
-    let l = c.before.before.before.laid2 in
-    let b = c.before.before.before.before.before in (
-      counted b.args.n b.args.before (entry b) b.args.laid l.given.0.0 l.given.0.1.0 l.given.1 c.odd-nodes.result c.odd-nodes.ensures.counts,
-      counted_held b.args.n b.args.before (entry b) b.args.laid l.given.0.0 l.given.0.1.0 l.given.1 b.requires,
-    )
+returns-2 : tie.Need-returns-in-Laid
+returns-2 c = (
+  counted c.args.n c.args.before (entry c.before.before.before) c.args.laid c.in-Laid.sum c.in-Laid.edges c.in-Laid.is c.odd_nodes-after.result c.odd_nodes-after.ensures.counts,
+  counted_held c.args.n c.args.before (entry c.before.before.before) c.args.laid c.in-Laid.sum c.in-Laid.edges c.in-Laid.is c.requires,
+)
 
 pub answer_spec : {M : Type 1} → statement M
 answer_spec = tie.close (tie.spec enum-known-laid returns enum-known-laid-2 odd-nodes-requires returns-2)

@@ -14,69 +14,57 @@ use Rattle.repair.proofs.fix_parity.Tie as tie
 abbrev entry : tie.Start → Adjacency
 entry b = adjacency b.args.ends.now b.args.weights.now b.args.next.now b.args.heads.now
 
-abbrev start : tie.After-find-pairs → tie.Start
-start c = c.before.before.before.before.before.before.before.before.before.before.before
-
 -- the pairs as they stand in the two arrays
-abbrev firsts : tie.After-find-pairs → List ℕ
-firsts c = c.find-pairs.new.1.1.1.1.1.1.1.1.1.1.1.0
+abbrev firsts : tie.After-find_pairs-pairs → List ℕ
+firsts c = c.find_pairs-pairs.new.firsts
 
-abbrev seconds : tie.After-find-pairs → List ℕ
-seconds c = c.find-pairs.new.1.1.1.1.1.1.1.1.1.1.1.1.0
+abbrev seconds : tie.After-find_pairs-pairs → List ℕ
+seconds c = c.find_pairs-pairs.new.seconds
 
-find-pairs-requires : tie.Need-find-pairs-requires
-find-pairs-requires c κs = let b = c.before.before.before.before.before.before.before.before.before.before in (b.requires.1, (b.requires.2, pairs_room))
+find-pairs-requires : tie.Need-find_pairs-pairs-requires
+find-pairs-requires c κs = (c.requires.1, (c.requires.2, pairs_room))
 
-enum-known-pairs : tie.Need-enum-known-pairs
+enum-known-pairs : tie.Need-enum_known-pairs
 enum-known-pairs c = search rules
 
-same_length : tie.Need-same-length
+same_length : tie.Need-shape_of-floats-in-Refused
 same_length c = search rules
 
-same-length-2 : tie.Need-same-length-2
+same-length-2 : tie.Need-shape_of-bytes-in-Refused
 same-length-2 c = search rules
 
-returns : tie.Need-returns
-returns c =
-    let f = c.before.before.before.before.before.before.before in
-    let b = start f in
-    let case = c.before.pairs in (
-      parity_refused b.args.most b.args.number (graph_in b.args.n b.args.m b.args.xs.now b.args.ys.now (entry b)) (settings_of b.args.settings) (length b.args.floats.now) (length b.args.bytes.now) case.given.0.0
-          (found_refusal f.find-pairs.result (firsts f) (seconds f) _ f.find-pairs.ensures case.given.0.0 case.given.1),
-      tt,
-    )
+returns : tie.Need-returns-in-Refused
+returns c = (
+  parity_refused c.args.most c.args.number (graph_in c.args.n c.args.m c.args.xs.now c.args.ys.now (entry c.before.before.before.before.before.before.before.before.before.before.before.before)) (settings_of c.args.settings) (length c.args.floats.now) (length c.args.bytes.now) c.in-Refused.refused
+      (found_refusal c.find_pairs-pairs.result (firsts c.before.before.before.before.before) (seconds c.before.before.before.before.before) _ c.find_pairs-pairs.ensures c.in-Refused.refused c.in-Refused.is),
+  tt,
+)
 
-enum-known-pairs-2 : tie.Need-enum-known-pairs-2
+enum-known-pairs-2 : tie.Need-enum_known-pairs-in-Found-1
 enum-known-pairs-2 c = search rules
 
-retrace-pairs-requires : tie.Need-retrace-pairs-requires
+retrace-pairs-requires : tie.Need-retrace_pairs-laid-requires
 retrace-pairs-requires c κs =
-    let f = c.before.before.before.before.before.before.before.before.before.before.before.before.before.before in
-    let b = start f in
-    let case = c.before.before.before.before.before.before.before.before.pairs2 in
-    let U = found_usable b.args.most b.args.number b.args.n b.args.m b.args.xs.now b.args.ys.now (entry b) b.pre.2 (settings_of b.args.settings) (length b.args.floats.now) (length b.args.bytes.now) case.given.0.0 case.given.0.1.0 (firsts f) (seconds f)
-    (found_some f.find-pairs.result (firsts f) (seconds f) _ f.find-pairs.ensures case.given.0.0 case.given.0.1.0 case.given.1) in
-    ((b.pre.0, U.few, U.nodes), b.pre.2)
+    let U = found_usable c.args.most c.args.number c.args.n c.args.m c.args.xs.now c.args.ys.now (entry c.before.before.before.before.before.before.before.before.before.before.before.before.before.before.before.before.before.before.before) c.requires.2 (settings_of c.args.settings) (length c.args.floats.now) (length c.args.bytes.now) c.in-Found.odd c.in-Found.count (firsts c.before.before.before.before.before.before.before.before.before.before.before.before) (seconds c.before.before.before.before.before.before.before.before.before.before.before.before)
+    (found_some c.find_pairs-pairs.result (firsts c.before.before.before.before.before.before.before.before.before.before.before.before) (seconds c.before.before.before.before.before.before.before.before.before.before.before.before) _ c.find_pairs-pairs.ensures c.in-Found.odd c.in-Found.count c.in-Found.is) in
+    ((c.requires.0, U.few, U.nodes), c.requires.2)
 
 answer-requires : tie.Need-answer-requires
 answer-requires c κs = search rules
 
-same-length-3 : tie.Need-same-length-3
+same-length-3 : tie.Need-shape_of-floats-in-Found
 same-length-3 c = search rules
 
-same-length-4 : tie.Need-same-length-4
+same-length-4 : tie.Need-shape_of-bytes-in-Found
 same-length-4 c = search rules
 
-returns-2 : tie.Need-returns-2
-returns-2 c =
-    let f = c.before.before.before.before.before.before.before.before.before.before.before.before.before.before.before.before.before.before.before.before in
-    let b = start f in
-    let case = c.before.before.before.before.before.before.before.before.before.before.before.before.before.before.pairs2 in (
-      c.answer.ensures.0
-          ∙ parity_retraced b.args.most b.args.number b.args.n b.args.m b.args.xs.now b.args.ys.now (entry b) b.pre.2 (settings_of b.args.settings) (length b.args.floats.now) (length b.args.bytes.now) case.given.0.0 case.given.0.1.0 (firsts f) (seconds f)
-          (found_some f.find-pairs.result (firsts f) (seconds f) _ f.find-pairs.ensures case.given.0.0 case.given.0.1.0 case.given.1) _ c.before.before.before.before.before.retrace-pairs.ensures.is,
-      c.answer.ensures.1,
-    )
+returns-2 : tie.Need-returns-in-Found
+returns-2 c = (
+  c.answer.ensures.0
+      ∙ parity_retraced c.args.most c.args.number c.args.n c.args.m c.args.xs.now c.args.ys.now (entry c.before.before.before.before.before.before.before.before.before.before.before.before.before.before.before.before.before.before.before.before.before) c.requires.2 (settings_of c.args.settings) (length c.args.floats.now) (length c.args.bytes.now) c.in-Found.odd c.in-Found.count (firsts c.before.before.before.before.before.before.before.before.before.before.before.before.before.before) (seconds c.before.before.before.before.before.before.before.before.before.before.before.before.before.before)
+      (found_some c.find_pairs-pairs.result (firsts c.before.before.before.before.before.before.before.before.before.before.before.before.before.before) (seconds c.before.before.before.before.before.before.before.before.before.before.before.before.before.before) _ c.find_pairs-pairs.ensures c.in-Found.odd c.in-Found.count c.in-Found.is) _ c.retrace_pairs-laid.ensures.is,
+  c.answer.ensures.1,
+)
 
 pub fix_parity_spec : {M : Type 1} → statement M
 fix_parity_spec =

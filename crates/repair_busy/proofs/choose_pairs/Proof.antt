@@ -9,60 +9,42 @@ use borrow.Author.Rules.{rules}
 use Rattle.repair_busy.proofs.choose_pairs.Statement.{statement}
 use Rattle.repair_busy.proofs.choose_pairs.Tie as tie
 
-place-nodes-requires : tie.Need-place-nodes-requires
+place-nodes-requires : tie.Need-place_nodes-requires
 place-nodes-requires c κs =
-    let b = c.before.before in
-    (b.requires.0, nodes_most _ _ _ _ b.requires.2 b.requires.1.few, refl)
+    (c.requires.0, nodes_most _ _ _ _ c.requires.2 c.requires.1.few, refl)
 
-graph-pairs-requires : tie.Need-graph-pairs-requires
+graph-pairs-requires : tie.Need-graph_pairs-near-requires
 graph-pairs-requires c κs =
-    let placed = c.before.before.before in
-    let b = placed.before.before.before in
-    (costs_table b.args.n b.args.xs.now b.args.ys.now b.args.odd.now b.args.count b.args.table.now _ b.requires.1 b.requires.2 b.requires.3 b.requires.4 placed.place-nodes.ensures, nodes_most _ _ _ _ b.requires.2 b.requires.1.few, room_new)
+    (costs_table c.args.n c.args.xs.now c.args.ys.now c.args.odd.now c.args.count c.args.table.now _ c.requires.1 c.requires.2 c.requires.3 c.requires.4 c.place_nodes.ensures, nodes_most _ _ _ _ c.requires.2 c.requires.1.few, room_new)
 
-euclidean-pairs-requires : tie.Need-euclidean-pairs-requires
+euclidean-pairs-requires : tie.Need-euclidean_pairs-greedy-requires
 euclidean-pairs-requires c κs = search rules
 
-pairs-cost-requires : tie.Need-pairs-cost-requires
+pairs-cost-requires : tie.Need-pairs_cost-paid-requires
 pairs-cost-requires c κs = search rules
 
-pairs-cost-requires-2 : tie.Need-pairs-cost-requires-2
+pairs-cost-requires-2 : tie.Need-pairs_cost-asked-requires
 pairs-cost-requires-2 c κs =
-    let near = c.before.before.before.before.before.before.before.before.before.before in
-    let placed = near.before.before.before.before in
-    let b = placed.before.before.before in
-    (table_held b.args.n b.args.odd.now b.args.count b.args.table.now _ b.requires.2 b.requires.3 placed.place-nodes.ensures, near.graph-pairs.ensures.1)
+    (table_held c.args.n c.args.odd.now c.args.count c.args.table.now _ c.requires.2 c.requires.3 c.place_nodes.ensures, c.graph_pairs-near.ensures.1)
 
-returns : tie.Need-returns
+returns : tie.Need-returns-then-no_dearer
 returns c =
-    let asked = c.before in
-    let paid = asked.before.before.before.before in
-    let greedy = paid.before.before.before.before in
-    let near = greedy.before.before.before in
-    let placed = near.before.before.before.before in
-    let b = placed.before.before.before in
     record {
       are = λ d T.
-          greedy_kept (nodes_in b.args.n b.args.xs.now b.args.ys.now) b.args.odd.now b.args.count b.requires.2.long b.args.table.now placed.place-nodes.new.1.1.0 placed.place-nodes.ensures d T b.requires.4
-          (pairs_in greedy.euclidean-pairs.new.1.1.1.1.1.0 greedy.euclidean-pairs.new.1.1.1.1.1.1.0 0 greedy.euclidean-pairs.result)
-          (pairs_in near.graph-pairs.new.1.1.1.1.1.1.0 near.graph-pairs.new.1.1.1.1.1.1.1.0 0 near.graph-pairs.result)
-          paid.pairs-cost.result asked.pairs-cost2.result greedy.euclidean-pairs.ensures.0 near.graph-pairs.ensures.0 paid.pairs-cost.ensures asked.pairs-cost2.ensures c.if1.true;
+          greedy_kept (nodes_in c.args.n c.args.xs.now c.args.ys.now) c.args.odd.now c.args.count c.requires.2.long c.args.table.now c.place_nodes.new.places c.place_nodes.ensures d T c.requires.4
+          (pairs_in c.euclidean_pairs-greedy.new.firsts c.euclidean_pairs-greedy.new.seconds 0 c.euclidean_pairs-greedy.result)
+          (pairs_in c.graph_pairs-near.new.firsts c.graph_pairs-near.new.seconds 0 c.graph_pairs-near.result)
+          c.pairs_cost-paid.result c.pairs_cost-asked.result c.euclidean_pairs-greedy.ensures.0 c.graph_pairs-near.ensures.0 c.pairs_cost-paid.ensures c.pairs_cost-asked.ensures c.if-no_dearer.true;
     }
 
-returns-2 : tie.Need-returns-2
+returns-2 : tie.Need-returns
 returns-2 c =
-    let asked = c.before in
-    let paid = asked.before.before.before.before in
-    let greedy = paid.before.before.before.before in
-    let near = greedy.before.before.before in
-    let placed = near.before.before.before.before in
-    let b = placed.before.before.before in
     record {
       are = λ d T.
-          near_taken (nodes_in b.args.n b.args.xs.now b.args.ys.now) b.args.odd.now b.args.count b.requires.2.long b.args.table.now placed.place-nodes.new.1.1.0 placed.place-nodes.ensures d T b.requires.4
-          (pairs_in greedy.euclidean-pairs.new.1.1.1.1.1.0 greedy.euclidean-pairs.new.1.1.1.1.1.1.0 0 greedy.euclidean-pairs.result)
-          (pairs_in near.graph-pairs.new.1.1.1.1.1.1.0 near.graph-pairs.new.1.1.1.1.1.1.1.0 0 near.graph-pairs.result)
-          paid.pairs-cost.result asked.pairs-cost2.result greedy.euclidean-pairs.ensures.0 near.graph-pairs.ensures.0 paid.pairs-cost.ensures asked.pairs-cost2.ensures c.if1.false;
+          near_taken (nodes_in c.args.n c.args.xs.now c.args.ys.now) c.args.odd.now c.args.count c.requires.2.long c.args.table.now c.place_nodes.new.places c.place_nodes.ensures d T c.requires.4
+          (pairs_in c.euclidean_pairs-greedy.new.firsts c.euclidean_pairs-greedy.new.seconds 0 c.euclidean_pairs-greedy.result)
+          (pairs_in c.graph_pairs-near.new.firsts c.graph_pairs-near.new.seconds 0 c.graph_pairs-near.result)
+          c.pairs_cost-paid.result c.pairs_cost-asked.result c.euclidean_pairs-greedy.ensures.0 c.graph_pairs-near.ensures.0 c.pairs_cost-paid.ensures c.pairs_cost-asked.ensures c.if-no_dearer.false;
     }
 
 pub choose_pairs_spec : {M : Type 1} → statement M

@@ -10,60 +10,54 @@ use borrow.Author.Rules.{rules}
 use Rattle.repair_busy.proofs.distance_in.Statement.{statement}
 use Rattle.repair_busy.proofs.distance_in.Tie as tie
 
-wide-requires : tie.Need-wide-requires
+wide-requires : tie.Need-wide-a-requires
 wide-requires c κs = search rules
 
-wide-requires-2 : tie.Need-wide-requires-2
+wide-requires-2 : tie.Need-wide-b-requires
 wide-requires-2 c κs = search rules
 
-mul_wide : tie.Need-overflow-mul-wide
+mul_wide : tie.Need-offset_bounds-places-a
 mul_wide c = search rules
 
-element-copy-out-wide : tie.Need-element-copy-out-wide
+element-copy-out-wide : tie.Need-bounds-places-a
 element-copy-out-wide c = search rules
 
-wide-requires-3 : tie.Need-wide-requires-3
+wide-requires-3 : tie.Need-wide-requires
 wide-requires-3 c κs = search rules
 
-mul-row : tie.Need-overflow-mul-row
+mul-row : tie.Need-overflow_mul-row
 mul-row c =
-    let u = c.before.before.before in
-    let b = u.before.before in
-    let T = b.requires.2 in
-    omega (arith, row_fits c.wide3.result b.args.size (row_read b.args.table.now b.args.places.now b.args.size T b.args.u u.wide.result c.wide3.result u.wide.ensures c.wide3.ensures) T.few)
+    let T = c.requires.2 in
+    omega (arith, row_fits c.wide.result c.args.size (row_read c.args.table.now c.args.places.now c.args.size T c.args.u c.wide-a.result c.wide.result c.wide-a.ensures c.wide.ensures) T.few)
 
-mul-wide-2 : tie.Need-overflow-mul-wide-2
+mul-wide-2 : tie.Need-offset_bounds-places-b
 mul-wide-2 c = search rules
 
-element-copy-out-wide-2 : tie.Need-element-copy-out-wide-2
+element-copy-out-wide-2 : tie.Need-bounds-places-b
 element-copy-out-wide-2 c = search rules
 
-wide-requires-4 : tie.Need-wide-requires-4
+wide-requires-4 : tie.Need-wide-requires-2
 wide-requires-4 c κs = search rules
 
 -- both places are read
-entry : (c : tie.After-wide4)
-    → let b = c.before.before.before.before.before.before.before in
-    Entry b.args.table.now b.args.places.now b.args.size b.args.u b.args.v c.before.before.wide3.result c.wide4.result
+entry : (c : tie.After-wide-2)
+    →
+    Entry c.args.table.now c.args.places.now c.args.size c.args.u c.args.v c.wide.result c.wide-2.result
 entry c =
-    let w = c.before.before in
-    let v = w.before.before in
-    let u = v.before in
-    let b = u.before.before in
-    entry_read b.args.table.now b.args.places.now b.args.size b.requires.2 b.args.u b.args.v u.wide.result v.wide2.result w.wide3.result c.wide4.result
-    u.wide.ensures v.wide2.ensures w.wide3.ensures c.wide4.ensures
+    entry_read c.args.table.now c.args.places.now c.args.size c.requires.2 c.args.u c.args.v c.wide-a.result c.wide-b.result c.wide.result c.wide-2.result
+    c.wide-a.ensures c.wide-b.ensures c.wide.ensures c.wide-2.ensures
 
-add_at : tie.Need-overflow-add-at
+add_at : tie.Need-overflow_add-at
 add_at c = omega (arith, (entry c).row, (entry c).column)
 
-mul-result : tie.Need-overflow-mul-result
+mul-result : tie.Need-offset_bounds-table-at
 mul-result c = omega (arith, (entry c).row, (entry c).column)
 
-shared-slice-read-result : tie.Need-shared-slice-read-result
+shared-slice-read-result : tie.Need-bounds-table-at
 shared-slice-read-result c = omega (arith, (entry c.before).inside)
 
 returns : tie.Need-returns
-returns c = ap (λ (k : ℕ). get_or c.before.before.before.before.before.before.before.before.args.table.now k nan) (entry c.before).is
+returns c = ap (λ (k : ℕ). get_or c.args.table.now k nan) (entry c.before).is
 
 pub distance_in_spec : {M : Type 1} → statement M
 distance_in_spec =

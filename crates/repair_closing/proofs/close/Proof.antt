@@ -5,7 +5,6 @@ use Prim.Native.Nat.{ℕ}
 use native.Mathlib.Omega.{arith}
 use lib.Ieee.{of_bits}
 use borrow.Author.Rules.{rules}
-use borrow.Author.Tests.{not-true, not-false}
 use Rattle.graph_adjacency.specs.Lists.{Adjacency, adjacency}
 use Rattle.graph_arrays.specs.Arrays.{edges_in}
 use Rattle.repair_spec.specs.Distance.{zero_length}
@@ -21,96 +20,71 @@ use Rattle.repair_closing.proofs.close.Tie as tie
 abbrev entry : tie.Start → Adjacency
 entry c = adjacency c.args.ends.now c.args.weights.now c.args.next.now c.args.heads.now
 
-abbrev start : tie.After-odd-nodes → tie.Start
-start c = c.before.before.before.before.before.before.before
+abbrev listed : tie.After-odd_nodes-count → List ℕ
+listed c = c.odd_nodes-count.new.odd
 
-abbrev listed : tie.After-odd-nodes → List ℕ
-listed c = c.odd-nodes.new.1.1.1.1.1.1.0
+abbrev after : tie.After-apply_pair-last → Adjacency
+after c = adjacency c.apply_pair-last.new.ends c.apply_pair-last.new.weights c.apply_pair-last.new.next c.apply_pair-last.new.heads
 
-abbrev ends_of : tie.After-apply-pair → tie.After-wide2
-ends_of c = c.before.before.before.before.before.before.before.before
-
-abbrev odd_of : tie.After-apply-pair → tie.After-odd-nodes
-odd_of c = (ends_of c).before.before.before
-
-abbrev after : tie.After-apply-pair → Adjacency
-after c = adjacency c.apply-pair.new.0 c.apply-pair.new.1.0 c.apply-pair.new.1.1.0 c.apply-pair.new.1.1.1.0
-
-two : (c : tie.After-apply-pair) → (odd_of c).odd_nodes_lem.result ≡ 2
-two c = omega (arith, (ends_of c).before.before.if2.false)
+two : (c : tie.After-apply_pair-last) → c.odd_nodes-count.result ≡ 2
+two c = omega (arith, c.if-no_pair.false)
 
 -- the last retrace, summed by itself
-abbrev last : tie.After-apply-pair → Repairing
+abbrev last : tie.After-apply_pair-last → Repairing
 last c =
-    let b = start (odd_of c) in
-    apply_matching b.args.most b.args.number b.args.n (pair (ends_of c).before.wide.result (ends_of c).wide2.result ∷ []) (so_far (edges_in b.args.m (entry b)) zero_length)
+    apply_matching c.args.most c.args.number c.args.n (pair c.wide-from.result c.wide-to.result ∷ []) (so_far (edges_in c.args.m (entry c.before.before.before.before.before.before.before.before.before.before.before.before.before.before)) zero_length)
 
 -- by the answer that a branch found
-made : (c : tie.After-apply-pair) (answer : Applied) → c.apply-pair.result ≡ answer → Answers (start (odd_of c)).args.n (last c) answer (after c)
+made : (c : tie.After-apply_pair-last) (answer : Applied) → c.apply_pair-last.result ≡ answer → Answers c.args.n (last c) answer (after c)
 unfolding of_bits
-made c answer e = subst (λ (x : Applied). Answers (start (odd_of c)).args.n (last c) x (after c)) e c.apply-pair.ensures.0
+made c answer e = subst (λ (x : Applied). Answers c.args.n (last c) x (after c)) e c.apply_pair-last.ensures.0
 
-returns : tie.Need-returns
+returns : tie.Need-returns-then-open
 returns c =
-    let b = c.before in
-    answers_open b.args.most b.args.number b.args.n b.args.m b.args.sum (entry b) b.requires.1 b.args.closing (not_true b.args.closing c.if1.true)
+    answers_open c.args.most c.args.number c.args.n c.args.m c.args.sum (entry c.before) c.requires.1 c.args.closing (c.if-open.true)
 
-odd-nodes-requires : tie.Need-odd-nodes-requires
-odd-nodes-requires c κs = c.before.before.before.before.before.before.requires.1.edges
+odd-nodes-requires : tie.Need-odd_nodes-count-requires
+odd-nodes-requires c κs = c.requires.1.edges
 
-returns-2 : tie.Need-returns-2
+returns-2 : tie.Need-returns-then-no_pair
 returns-2 c =
-    let f = c.before in
-    let b = start f in
-    answers_none b.args.most b.args.number b.args.n b.args.m b.args.sum (entry b) b.pre.1 b.args.closing (not-false b.args.closing f.before.before.before.before.before.before.if1.false)
-    (listed f) f.odd-nodes.result f.odd-nodes.ensures (λ e. omega (arith, c.if2.true))
+    answers_none c.args.most c.args.number c.args.n c.args.m c.args.sum (entry c.before.before.before.before) c.requires.1 c.args.closing (c.if-open.false)
+    (listed c.before) c.odd_nodes-count.result c.odd_nodes-count.ensures (λ e. omega (arith, c.if-no_pair.true))
 
-array-read-wide : tie.Need-array-read-wide
+array-read-wide : tie.Need-bounds-odd-0
 array-read-wide c = search rules
 
-wide-requires : tie.Need-wide-requires
+wide-requires : tie.Need-wide-from-requires
 wide-requires c κs = search rules
 
-array-read-wide-2 : tie.Need-array-read-wide-2
+array-read-wide-2 : tie.Need-bounds-odd-1
 array-read-wide-2 c = search rules
 
-wide-requires-2 : tie.Need-wide-requires-2
+wide-requires-2 : tie.Need-wide-to-requires
 wide-requires-2 c κs = search rules
 
-apply-pair-requires : tie.Need-apply-pair-requires
+apply-pair-requires : tie.Need-apply_pair-last-requires
 apply-pair-requires c κs =
-    let w = c.before.before.before.before.before.before.before in
-    let e = w.before.before in
-    let f = e.before in
-    let b = start f in
-    let below = node_below b.args.most b.args.number b.args.n b.args.m b.args.sum (entry b) b.pre.1 b.args.closing (not-false b.args.closing f.before.before.before.before.before.before.if1.false)
-    (listed f) f.odd-nodes.result f.odd-nodes.ensures in
-    ((omega (arith, w.before.wide.ensures, below 0 (omega (arith, e.if2.false))), omega (arith, w.wide2.ensures, below 1 (omega (arith, e.if2.false))), b.pre.0.0, b.pre.0.1), b.pre.1)
+    let below = node_below c.args.most c.args.number c.args.n c.args.m c.args.sum (entry c.before.before.before.before.before.before.before.before.before.before.before.before.before) c.requires.1 c.args.closing (c.if-open.false)
+    (listed c.before.before.before.before.before.before.before.before.before.before) c.odd_nodes-count.result c.odd_nodes-count.ensures in
+    ((omega (arith, c.wide-from.ensures, below 0 (omega (arith, c.if-no_pair.false))), omega (arith, c.wide-to.ensures, below 1 (omega (arith, c.if-no_pair.false))), c.requires.0.0, c.requires.0.1), c.requires.1)
 
-enum-known-last : tie.Need-enum-known-last
+enum-known-last : tie.Need-enum_known-last
 enum-known-last c = search rules
 
-enum_told : tie.Need-enum-told
+enum_told : tie.Need-enum_told-1
 enum_told c = search rules
 
-returns-3 : tie.Need-returns-3
+returns-3 : tie.Need-returns-in_default
 returns-3 c =
-    let p = c.before.before in
-    let w = ends_of p in
-    let f = odd_of p in
-    let b = start f in
-    subst (λ (x : Applied). Answers b.args.n (close_if b.args.closing b.args.most b.args.number b.args.n (repaired (so_far (edges_in b.args.m (entry b)) b.args.sum))) x (after p)) (sym c.enum_told.given.1)
-    (answers_refused b.args.most b.args.number b.args.n b.args.m b.args.sum (entry b) b.pre.1 b.args.closing (not-false b.args.closing f.before.before.before.before.before.before.if1.left)
-    (listed f) f.odd-nodes.result f.odd-nodes.ensures (two p) w.before.wide.result w.wide2.result w.before.wide.ensures w.wide2.ensures _ (after p) (made p _ c.enum_told.given.1))
+    subst (λ (x : Applied). Answers c.args.n (close_if c.args.closing c.args.most c.args.number c.args.n (repaired (so_far (edges_in c.args.m (entry c.before.before.before.before.before.before.before.before.before.before.before.before.before.before.before)) c.args.sum))) x (after c.before)) (sym c.in_default.is)
+    (answers_refused c.args.most c.args.number c.args.n c.args.m c.args.sum (entry c.before.before.before.before.before.before.before.before.before.before.before.before.before.before.before) c.requires.1 c.args.closing (c.if-open.false)
+    (listed c.before.before.before.before.before.before.before.before.before.before.before.before) c.odd_nodes-count.result c.odd_nodes-count.ensures (two c.before) c.wide-from.result c.wide-to.result c.wide-from.ensures c.wide-to.ensures _ (after c.before) (made c.before _ c.in_default.is))
 
-returns-4 : tie.Need-returns-4
+returns-4 : tie.Need-returns
 returns-4 c =
-    let p = c.before.before.before in
-    let w = ends_of p in
-    let f = odd_of p in
-    let b = start f in
-    answers_joined b.args.most b.args.number b.args.n b.args.m b.args.sum (entry b) b.pre.1 b.args.closing (not-false b.args.closing f.before.before.before.before.before.before.if1.left)
-    (listed f) f.odd-nodes.result f.odd-nodes.ensures (two p) w.before.wide.result w.wide2.result w.before.wide.ensures w.wide2.ensures _ _ (after p) (made p _ c.before.last.given.1)
+    answers_joined c.args.most c.args.number c.args.n c.args.m c.args.sum (entry c.before.before.before.before.before.before.before.before.before.before.before.before.before.before.before) c.requires.1 c.args.closing (c.if-open.false)
+    (listed c.before.before.before.before.before.before.before.before.before.before.before.before) c.odd_nodes-count.result c.odd_nodes-count.ensures (two c.before) c.wide-from.result c.wide-to.result c.wide-from.ensures c.wide-to.ensures _ _ (after c.before) (made c.before _ c.in-Laid.is)
 
 pub close_spec : {M : Type 1} → statement M
 close_spec =

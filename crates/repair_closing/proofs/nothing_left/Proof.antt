@@ -5,11 +5,11 @@ use borrow.Author.Tests.{eqb-true}
 use Rattle.repair_closing.proofs.nothing_left.Statement.{statement}
 use Rattle.repair_closing.proofs.nothing_left.Tie as tie
 
-returns : tie.Need-returns
+returns : tie.Need-returns-then-closing
 returns c e = absurd (true≢false (sym e))
 
-returns-2 : tie.Need-returns-2
-returns-2 c e = (eqb-true _ _ e, c.if1.false)
+returns-2 : tie.Need-returns
+returns-2 c e = (eqb-true _ _ e, c.if-closing.false)
 
 pub nothing_left_spec : {M : Type 1} → statement M
 nothing_left_spec = tie.close (tie.spec returns returns-2)

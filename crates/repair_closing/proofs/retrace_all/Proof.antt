@@ -22,55 +22,40 @@ entry c = adjacency c.args.ends.now c.args.weights.now c.args.next.now c.args.he
 abbrev paired : tie.Start → Repairing
 paired c = apply_matching c.args.most c.args.number c.args.n (pairs_in c.args.firsts.now c.args.seconds.now 0 c.args.pairs) (so_far (edges_in c.args.m (entry c)) zero_length)
 
-abbrev start : tie.After-apply-matching → tie.Start
-start c = c.before.before.before.before.before.before.before.before.before
-
-abbrev after : tie.After-apply-matching → Adjacency
-after c = adjacency c.apply-matching.new.0 c.apply-matching.new.1.0 c.apply-matching.new.1.1.0 c.apply-matching.new.1.1.1.0
+abbrev after : tie.After-apply_matching-laid → Adjacency
+after c = adjacency c.apply_matching-laid.new.ends c.apply_matching-laid.new.weights c.apply_matching-laid.new.next c.apply_matching-laid.new.heads
 
 -- by the answer that a branch found
-made : (c : tie.After-apply-matching) (answer : Applied) → c.apply-matching.result ≡ answer → Answers (start c).args.n (paired (start c)) answer (after c)
+made : (c : tie.After-apply_matching-laid) (answer : Applied) → c.apply_matching-laid.result ≡ answer → Answers c.args.n (paired c.before.before.before.before.before.before.before.before.before) answer (after c)
 unfolding of_bits
-made c answer e = subst (λ (x : Applied). Answers (start c).args.n (paired (start c)) x (after c)) e c.apply-matching.ensures.0
+made c answer e = subst (λ (x : Applied). Answers c.args.n (paired c.before.before.before.before.before.before.before.before.before) x (after c)) e c.apply_matching-laid.ensures.0
 
-infinity-requires : tie.Need-infinity-requires
+infinity-requires : tie.Need-infinity-infinity-requires
 infinity-requires c κs = search rules
 
-apply-matching-requires : tie.Need-apply-matching-requires
+apply-matching-requires : tie.Need-apply_matching-laid-requires
 apply-matching-requires c κs =
-    let f = c.before.before.before.before.before.before.before in
-    let b = f.before in
-    ((b.requires.0.0, b.requires.0.1, unreached_new b.args.n b.requires.1.edges.few_nodes f.infinity.result f.infinity.ensures, b.requires.0.2), b.requires.1)
+    ((c.requires.0.0, c.requires.0.1, unreached_new c.args.n c.requires.1.edges.few_nodes c.infinity-infinity.result c.infinity-infinity.ensures, c.requires.0.2), c.requires.1)
 
-enum-known-laid : tie.Need-enum-known-laid
+enum-known-laid : tie.Need-enum_known-laid
 enum-known-laid c = search rules
 
-enum_told : tie.Need-enum-told
+enum_told : tie.Need-enum_told-1
 enum_told c = search rules
 
-returns : tie.Need-returns
+returns : tie.Need-returns-in_default
 returns c =
-    let f = c.before.before in
-    let b = start f in
-    subst (λ (x : Applied). Answers b.args.n (close_if b.args.closing b.args.most b.args.number b.args.n (paired b)) x (after f)) (sym c.enum_told.given.1)
-    (close_refused b.args.most b.args.number b.args.n b.args.closing (paired b) _ (after f) (made f _ c.enum_told.given.1))
-
-abbrev told : tie.After-touched2 → tie.After-known-told
-told c = c.before.before.before.before.before.before.before
+    subst (λ (x : Applied). Answers c.args.n (close_if c.args.closing c.args.most c.args.number c.args.n (paired c.before.before.before.before.before.before.before.before.before.before)) x (after c.before)) (sym c.in_default.is)
+    (close_refused c.args.most c.args.number c.args.n c.args.closing (paired c.before.before.before.before.before.before.before.before.before.before) _ (after c.before) (made c.before _ c.in_default.is))
 
 close-requires : tie.Need-close-requires
 close-requires c κs =
-    let t = told c in
-    let f = t.before.before.before in
-    (((start f).pre.0.0, f.apply-matching.ensures.1), (made f _ t.before.laid.given.1).held)
+    ((c.requires.0.0, c.apply_matching-laid.ensures.1), (made c.before.before.before.before.before.before.before.before _ c.in-Laid.is).held)
 
-returns-2 : tie.Need-returns-2
+returns-2 : tie.Need-returns
 returns-2 c =
-    let t = told c.before in
-    let f = t.before.before.before in
-    let b = start f in
-    close_after b.args.most b.args.number b.args.n b.args.closing (paired b) _ _ (after f) (made f _ t.before.laid.given.1) c.close.result
-    (adjacency c.close.new.0 c.close.new.1.0 c.close.new.1.1.0 c.close.new.1.1.1.0) c.close.ensures
+    close_after c.args.most c.args.number c.args.n c.args.closing (paired c.before.before.before.before.before.before.before.before.before.before.before.before.before.before.before.before.before.before) _ _ (after c.before.before.before.before.before.before.before.before.before) (made c.before.before.before.before.before.before.before.before.before _ c.in-Laid.is) c.close.result
+    (adjacency c.close.new.ends c.close.new.weights c.close.new.next c.close.new.heads) c.close.ensures
 
 pub retrace_all_spec : {M : Type 1} → statement M
 retrace_all_spec = tie.close (tie.spec infinity-requires apply-matching-requires enum-known-laid enum_told returns close-requires returns-2)

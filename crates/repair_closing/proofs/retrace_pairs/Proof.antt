@@ -8,21 +8,20 @@ use Rattle.repair_closing.proofs.Closing.{answers_nothing}
 use Rattle.repair_closing.proofs.retrace_pairs.Statement.{statement}
 use Rattle.repair_closing.proofs.retrace_pairs.Tie as tie
 
-nothing-left-requires : tie.Need-nothing-left-requires
+nothing-left-requires : tie.Need-nothing_left-requires
 nothing-left-requires c κs = search rules
 
-returns : tie.Need-returns
+returns : tie.Need-returns-then-nothing_left
 unfolding of_bits
 returns c =
-    let b = c.before.before in
-    let h = c.before.nothing_left.ensures c.if1.true in
-    let a = adjacency b.args.ends.now b.args.weights.now b.args.next.now b.args.heads.now in
-    answers_nothing b.args.most b.args.number b.args.n b.args.m zero_length a b.requires.1 b.args.closing h.1 refl b.args.firsts.now b.args.seconds.now b.args.pairs h.0
+    let h = c.nothing_left.ensures c.if-nothing_left.true in
+    let a = adjacency c.args.ends.now c.args.weights.now c.args.next.now c.args.heads.now in
+    answers_nothing c.args.most c.args.number c.args.n c.args.m zero_length a c.requires.1 c.args.closing h.1 refl c.args.firsts.now c.args.seconds.now c.args.pairs h.0
 
-retrace-all-requires : tie.Need-retrace-all-requires
+retrace-all-requires : tie.Need-retrace_all-requires
 retrace-all-requires c κs = search rules
 
-returns-2 : tie.Need-returns-2
+returns-2 : tie.Need-returns
 returns-2 c = search rules
 
 pub retrace_pairs_spec : {M : Type 1} → statement M

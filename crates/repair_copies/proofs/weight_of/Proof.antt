@@ -7,17 +7,17 @@ use borrow.Author.Rules.{rules}
 use Rattle.repair_copies.proofs.weight_of.Statement.{statement}
 use Rattle.repair_copies.proofs.weight_of.Tie as tie
 
-edge-number-requires : tie.Need-edge-number-requires
+edge-number-requires : tie.Need-edge_number-e-requires
 edge-number-requires c κs = search rules
 
-mul-result : tie.Need-overflow-mul-result
+mul-result : tie.Need-offset_bounds-weights-e
 mul-result c = search rules
 
-element-copy-out-result : tie.Need-element-copy-out-result
+element-copy-out-result : tie.Need-bounds-weights-e
 element-copy-out-result c = search rules
 
 returns : tie.Need-returns
-returns c = ap (λ (e : ℕ). get_or c.before.before.args.weights.now e nan) c.before.edge-number.ensures
+returns c = ap (λ (e : ℕ). get_or c.args.weights.now e nan) c.edge_number-e.ensures
 
 pub weight_of_spec : {M : Type 1} → statement M
 weight_of_spec =

@@ -8,49 +8,42 @@ use borrow.Author.Rules.{rules}
 use Rattle.repair_distances.proofs.sweep_row.Statement.{statement}
 use Rattle.repair_distances.proofs.sweep_row.Tie as tie
 
-mul_wide : tie.Need-overflow-mul-wide
+mul_wide : tie.Need-offset_bounds-odd-i
 mul_wide c = search rules
 
-element-copy-out-wide : tie.Need-element-copy-out-wide
+element-copy-out-wide : tie.Need-bounds-odd-i
 element-copy-out-wide c = search rules
 
-wide-requires : tie.Need-wide-requires
+wide-requires : tie.Need-wide-s-requires
 wide-requires c κs = search rules
 
-sweep-from-requires : tie.Need-sweep-from-requires
+sweep-from-requires : tie.Need-sweep_from-swept-requires
 sweep-from-requires c κs =
-    let w = c.before.before.before in
-    let b = w.before.before.before in
-    ((omega (arith, b.requires.1.1.0.nodes_in_known b.args.i b.requires.1.1.1, w.wide.ensures), b.requires.0), b.requires.1.0)
+    ((omega (arith, c.requires.1.1.0.nodes_in_known c.args.i c.requires.1.1.1, c.wide-s.ensures), c.requires.0), c.requires.1.0)
 
-mul-start : tie.Need-overflow-mul-start
-mul-start c = let b = c.before.before.before.before.before.before.before in omega (arith, row_ends b.args.count b.args.i b.requires.1.1.1, square_small b.args.count b.requires.1.1.0.fits)
+mul-start : tie.Need-overflow_mul-start
+mul-start c = omega (arith, row_ends c.args.count c.args.i c.requires.1.1.1, square_small c.args.count c.requires.1.1.0.fits)
 
-add_start : tie.Need-overflow-add-start
-add_start c = let b = c.before.before.before.before.before.before.before in omega (arith, row_ends b.args.count b.args.i b.requires.1.1.1, square_small b.args.count b.requires.1.1.0.fits, b.requires.1.1.2)
+add_start : tie.Need-overflow_add-start
+add_start c = omega (arith, row_ends c.args.count c.args.i c.requires.1.1.1, square_small c.args.count c.requires.1.1.0.fits, c.requires.1.1.2)
 
-copy-row-requires : tie.Need-copy-row-requires
+copy-row-requires : tie.Need-copy_row-requires
 copy-row-requires c κs =
-    let b = c.before.before.before.before.before.before.before.before.before in
-    (omega (arith, row_ends b.args.count b.args.i b.requires.1.1.1, b.requires.1.1.3), nodes_most _ _ _ _ b.requires.1.1.0 b.requires.1.0.edges.few_nodes)
+    (omega (arith, row_ends c.args.count c.args.i c.requires.1.1.1, c.requires.1.1.3), nodes_most _ _ _ _ c.requires.1.1.0 c.requires.1.0.edges.few_nodes)
 
 clear-requires : tie.Need-clear-requires
 clear-requires c κs = search rules
 
-same_length : tie.Need-same-length
+same_length : tie.Need-shape_of-table
 same_length c = search rules
 
 returns : tie.Need-returns
-returns c =
-    let r = c.before.before.before.before.before.before in
-    let f = r.before.before.before in
-    let w = f.before.before.before.before in
-    let b = w.before.before.before in (
-      λ t.
-          row_is _ b.args.m (adjacency b.args.ends.now b.args.weights.now b.args.next.now b.args.heads.now) _ _ _ _ w.wide.result _ _ _ _ b.requires.1.0 b.requires.1.1.1 b.requires.1.1.0
-          w.wide.ensures refl (f.sweep-from.ensures.0 t) r.copy-row.ensures,
-      (copied_before _ b.args.odd.now b.args.count b.args.base b.args.i _ _ _ refl r.copy-row.ensures, c.clear.ensures),
-    )
+returns c = (
+  λ t.
+      row_is _ c.args.m (adjacency c.args.ends.now c.args.weights.now c.args.next.now c.args.heads.now) _ _ _ _ c.wide-s.result _ _ _ _ c.requires.1.0 c.requires.1.1.1 c.requires.1.1.0
+      c.wide-s.ensures refl (c.sweep_from-swept.ensures.0 t) c.copy_row.ensures,
+  (copied_before _ c.args.odd.now c.args.count c.args.base c.args.i _ _ _ refl c.copy_row.ensures, c.clear.ensures),
+)
 
 pub sweep_row_spec : {M : Type 1} → statement M
 sweep_row_spec =

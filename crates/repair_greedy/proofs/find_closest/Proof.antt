@@ -12,50 +12,48 @@ use Rattle.repair_greedy.proofs.Rounds.{found_places}
 use Rattle.repair_greedy.proofs.find_closest.Statement.{statement}
 use Rattle.repair_greedy.proofs.find_closest.Tie as tie
 
-abbrev invariant_loop : tie.invariant_loop
+abbrev invariant_loop : tie.invariant-loop-i
 invariant_loop xs ys table places size tabled working lows₀ n least farther best₀ last i₀ lows best i =
     (i < n) × Bounds (cost_in tabled xs ys table places size) working n lows
     × (closest ltb (cost_in tabled xs ys table places size) (drop i (take n working)) i (between best.from best.to best.cost) ≡ closest ltb (cost_in tabled xs ys table places size) (take n working) 0 nothing)
 
-abbrev decreases_loop : tie.decreases_loop
+abbrev decreases_loop : tie.decreases-loop-i
 decreases_loop xs ys table places size tabled working lows₀ n least farther best₀ last i₀ lows best i = n - i
 
-least-cost-requires : tie.Need-least-cost-requires invariant_loop decreases_loop
-least-cost-requires c κs = c.before.before.requires
+least-cost-requires : tie.Need-least_cost-least-requires invariant_loop decreases_loop
+least-cost-requires c κs = c.requires
 
-add-farther : tie.Need-overflow-add-farther invariant_loop decreases_loop
+add-farther : tie.Need-overflow_add-farther invariant_loop decreases_loop
 add-farther c = omega arith
 
-sub-last : tie.Need-overflow-sub-last invariant_loop decreases_loop
+sub-last : tie.Need-overflow_sub-last invariant_loop decreases_loop
 sub-last c = omega arith
 
-loop-holds : tie.Need-loop-init invariant_loop decreases_loop
+loop-holds : tie.Need-loop-i-init invariant_loop decreases_loop
 loop-holds c =
-    (omega arith, c.least-cost.ensures.2, start_farther _ _ 0 1 _ _ c.least-cost.ensures.0 (omega arith))
+    (omega arith, c.least_cost-least.ensures.2, start_farther _ _ 0 1 _ _ c.least_cost-least.ensures.0 (omega arith))
 
-with-row-requires : tie.Need-with-row-requires invariant_loop decreases_loop
-with-row-requires c κs = let pre = c.before.before.before.before.before.before.requires in (omega arith, pre.1, pre.2, c.before.before.loop.invariant.1)
+with-row-requires : tie.Need-with_row-best-requires invariant_loop decreases_loop
+with-row-requires c κs = let pre = c.requires in (omega arith, pre.1, pre.2, c.loop-i.invariant.1)
 
-add-i : tie.Need-overflow-add-i invariant_loop decreases_loop
+add-i : tie.Need-overflow_add-i invariant_loop decreases_loop
 add-i c = omega arith
 
-loop-less : tie.Need-loop-smaller invariant_loop decreases_loop
+loop-less : tie.Need-loop-i-smaller invariant_loop decreases_loop
 loop-less c = omega arith
 
-loop-again : tie.Need-loop-preserved invariant_loop decreases_loop
-loop-again c =
-    let s = c.before.before.before.before.before.before.before in (
-      omega arith,
-      c.with_row.ensures.1,
-      rows_turn (cost_in s.args.tabled s.args.xs.now s.args.ys.now s.args.table.now s.args.places.now s.args.size) s.args.working.now s.args.left s.requires.2.long _ _ _ _ (omega arith) c.with_row.ensures.0 c.before.before.before.loop.invariant.2,
-    )
+loop-again : tie.Need-loop-i-preserved invariant_loop decreases_loop
+loop-again c = (
+  omega arith,
+  c.with_row-best.ensures.1,
+  rows_turn (cost_in c.args.tabled c.args.xs.now c.args.ys.now c.args.table.now c.args.places.now c.args.size) c.args.working.now c.args.left c.requires.2.long _ _ _ _ (omega arith) c.with_row-best.ensures.0 c.loop-i.invariant.2,
+)
 
 returns : tie.Need-returns invariant_loop decreases_loop
 returns c =
-    let s = c.before.before.before.before.before in
-    let inv = c.before.loop.invariant in
-    let is = sym (rows_end (cost_in s.args.tabled s.args.xs.now s.args.ys.now s.args.table.now s.args.places.now s.args.size) s.args.working.now s.args.left s.requires.2.long c.before.loop.i _ _ (omega arith) inv.2) in
-    let at = found_places (cost_in s.args.tabled s.args.xs.now s.args.ys.now s.args.table.now s.args.places.now s.args.size) s.args.working.now s.args.left _ _ _ s.requires.2.long is s.requires.0 in
+    let inv = c.loop-i.invariant in
+    let is = sym (rows_end (cost_in c.args.tabled c.args.xs.now c.args.ys.now c.args.table.now c.args.places.now c.args.size) c.args.working.now c.args.left c.requires.2.long c.loop-i.i _ _ (omega arith) inv.2) in
+    let at = found_places (cost_in c.args.tabled c.args.xs.now c.args.ys.now c.args.table.now c.args.places.now c.args.size) c.args.working.now c.args.left _ _ _ c.requires.2.long is c.requires.0 in
     (is, at.0, at.1, inv.1)
 
 pub find_closest_spec : {M : Type 1} → statement M

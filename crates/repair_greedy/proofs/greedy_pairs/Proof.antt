@@ -8,19 +8,17 @@ use Rattle.repair_greedy.proofs.Same.{greedy_is}
 use Rattle.repair_greedy.proofs.greedy_pairs.Statement.{statement}
 use Rattle.repair_greedy.proofs.greedy_pairs.Tie as tie
 
-slice-aggregate-nearest-pairs : tie.Need-slice-aggregate-nearest-pairs
+slice-aggregate-nearest-pairs : tie.Need-slice_bounds-nearest_pairs-end
 slice-aggregate-nearest-pairs c = search rules
 
-nearest-pairs-requires : tie.Need-nearest-pairs-requires
+nearest-pairs-requires : tie.Need-nearest_pairs-requires
 nearest-pairs-requires c κs =
-    let b = c.before.before.before.before.before in
-    (costs_points b.args.n b.args.xs.now b.args.ys.now _ 1534 b.requires.0, nodes_most _ _ _ _ b.requires.1 b.requires.0.few, b.requires.2)
+    (costs_points c.args.n c.args.xs.now c.args.ys.now _ 1534 c.requires.0, nodes_most _ _ _ _ c.requires.1 c.requires.0.few, c.requires.2)
 
 returns : tie.Need-returns
 returns c =
-    let b = c.before.before.before.before.before.before in
-    let e = c.nearest-pairs.ensures in
-    (e.0 ∙ greedy_is b.args.n b.args.xs.now b.args.ys.now most_nodes b.args.odd.now b.args.count b.requires.1, e.1)
+    let e = c.nearest_pairs.ensures in
+    (e.0 ∙ greedy_is c.args.n c.args.xs.now c.args.ys.now most_nodes c.args.odd.now c.args.count c.requires.1, e.1)
 
 pub greedy_pairs_spec : {M : Type 1} → statement M
 greedy_pairs_spec =

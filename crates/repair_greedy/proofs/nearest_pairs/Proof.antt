@@ -7,48 +7,45 @@ use Rattle.repair_greedy.proofs.Rounds.{Writing, writing_start, writing_round, w
 use Rattle.repair_greedy.proofs.nearest_pairs.Statement.{statement}
 use Rattle.repair_greedy.proofs.nearest_pairs.Tie as tie
 
-abbrev invariant_loop : tie.invariant_loop
+abbrev invariant_loop : tie.invariant-loop-left
 invariant_loop xs ys table places size tabled working₀ count firsts₀ seconds₀ lows₀ left₀ pairs₀ working firsts seconds lows left pairs =
     Bounds (cost_in tabled xs ys table places size) working left lows × Writing (cost_in tabled xs ys table places size) count left pairs working₀ working firsts seconds
 
-abbrev decreases_loop : tie.decreases_loop
+abbrev decreases_loop : tie.decreases-loop-left
 decreases_loop xs ys table places size tabled working₀ count firsts₀ seconds₀ lows₀ left₀ pairs₀ working firsts seconds lows left pairs = left
 
-loop-holds : tie.Need-loop-init invariant_loop decreases_loop
+loop-holds : tie.Need-loop-left-init invariant_loop decreases_loop
 loop-holds c =
-    let b = c.before in
-    let a = b.args in
-    (bounds_zero (cost_in a.tabled a.xs.now a.ys.now a.table.now a.places.now a.size) a.working.now a.count 1534, writing_start (cost_in a.tabled a.xs.now a.ys.now a.table.now a.places.now a.size) a.count a.working.now _ _ b.requires.1 b.requires.2)
+    let a = c.args in
+    (bounds_zero (cost_in a.tabled a.xs.now a.ys.now a.table.now a.places.now a.size) a.working.now a.count 1534, writing_start (cost_in a.tabled a.xs.now a.ys.now a.table.now a.places.now a.size) a.count a.working.now _ _ c.requires.1 c.requires.2)
 
-pair-nearest-requires : tie.Need-pair-nearest-requires invariant_loop decreases_loop
+pair-nearest-requires : tie.Need-pair_nearest-requires invariant_loop decreases_loop
 pair-nearest-requires c κs =
-    let at = c.before.before.before.before.before.loop in
-    let s = c.before.before.before.before.before.before.before in
+    let at = c.loop-left in
     let W = at.invariant.1.nodes in
-    (omega arith, omega (arith, at.invariant.1.sum, W.fits, s.requires.1.fits), s.requires.0, W, at.invariant.0)
+    (omega arith, omega (arith, at.invariant.1.sum, W.fits, c.requires.1.fits), c.requires.0, W, at.invariant.0)
 
-sub-left : tie.Need-overflow-sub-left invariant_loop decreases_loop
+sub-left : tie.Need-overflow_sub-left invariant_loop decreases_loop
 sub-left c = omega arith
 
-add-pairs : tie.Need-overflow-add-pairs invariant_loop decreases_loop
+add-pairs : tie.Need-overflow_add-pairs invariant_loop decreases_loop
 add-pairs c = omega arith
 
-loop-less : tie.Need-loop-smaller invariant_loop decreases_loop
+loop-less : tie.Need-loop-left-smaller invariant_loop decreases_loop
 loop-less c = omega arith
 
-loop-again : tie.Need-loop-preserved invariant_loop decreases_loop
+loop-again : tie.Need-loop-left-preserved invariant_loop decreases_loop
 loop-again c =
-    let a = c.before.before.before.before.before.before.before.before.args in
-    let at = c.before.before.before.before.before.before.loop in
-    let done = c.pair-nearest.ensures in
+    let a = c.args in
+    let at = c.loop-left in
+    let done = c.pair_nearest.ensures in
     (done.0, writing_round (cost_in a.tabled a.xs.now a.ys.now a.table.now a.places.now a.size) a.count a.working.now at.left at.pairs at.working at.firsts at.seconds at.invariant.1 _ _ _ (omega arith) (omega arith) done.1)
 
 returns : tie.Need-returns invariant_loop decreases_loop
 returns c =
-    let b = c.before.before.before in
-    let a = b.args in
-    let at = c.before.loop in
-    (writing_end (cost_in a.tabled a.xs.now a.ys.now a.table.now a.places.now a.size) a.count a.working.now at.left at.pairs at.working at.firsts at.seconds at.invariant.1 c.loop-test.false, writing_paired (cost_in a.tabled a.xs.now a.ys.now a.table.now a.places.now a.size) a.count a.working.now at.left at.pairs at.working at.firsts at.seconds at.invariant.1 b.requires.1.fits)
+    let a = c.args in
+    let at = c.loop-left in
+    (writing_end (cost_in a.tabled a.xs.now a.ys.now a.table.now a.places.now a.size) a.count a.working.now at.left at.pairs at.working at.firsts at.seconds at.invariant.1 c.loop-left-test.false, writing_paired (cost_in a.tabled a.xs.now a.ys.now a.table.now a.places.now a.size) a.count a.working.now at.left at.pairs at.working at.firsts at.seconds at.invariant.1 c.requires.1.fits)
 
 pub nearest_pairs_spec : {M : Type 1} → statement M
 nearest_pairs_spec =

@@ -3,22 +3,22 @@ use borrow.Author.Rules.{rules}
 use Rattle.repair_greedy.proofs.remove_place.Statement.{statement}
 use Rattle.repair_greedy.proofs.remove_place.Tie as tie
 
-mul-working : tie.Need-overflow-mul-working
+mul-working : tie.Need-offset_bounds-working-last
 mul-working c = search rules
 
-element-copy-out-working : tie.Need-element-copy-out-working
+element-copy-out-working : tie.Need-bounds-working-last
 element-copy-out-working c = search rules
 
-mul-working-2 : tie.Need-overflow-mul-working-2
+mul-working-2 : tie.Need-offset_bounds-working-i
 mul-working-2 c = search rules
 
-element-write-working : tie.Need-element-write-working
+element-write-working : tie.Need-bounds-working-i
 element-write-working c = search rules
 
-mul-lows : tie.Need-overflow-mul-lows
+mul-lows : tie.Need-offset_bounds-lows-i
 mul-lows c = search rules
 
-element-write-lows : tie.Need-element-write-lows
+element-write-lows : tie.Need-bounds-lows-i
 element-write-lows c = search rules
 
 returns : tie.Need-returns

@@ -10,46 +10,46 @@ use borrow.Author.Rules.{rules}
 use Rattle.repair_optimal.proofs.leave_from.Statement.{statement}
 use Rattle.repair_optimal.proofs.leave_from.Tie as tie
 
-abbrev invariant_loop : tie.invariant_loop
+abbrev invariant_loop : tie.invariant-loop-v
 invariant_loop table n mask start best₀ v₀ best v =
     (start ≤ v) × (leave_from (n - v) (costs table) mask v (least best.cost best.at) ≡ leave_from (n - start) (costs table) mask start (least best₀.cost best₀.at))
 
-abbrev decreases_loop : tie.decreases_loop
+abbrev decreases_loop : tie.decreases-loop-v
 decreases_loop table n mask start best₀ v₀ best v = n - v
 
-loop-holds : tie.Need-loop-init invariant_loop decreases_loop
+loop-holds : tie.Need-loop-v-init invariant_loop decreases_loop
 loop-holds c = (omega arith, refl)
 
 power-requires : tie.Need-power-requires invariant_loop decreases_loop
 power-requires c κs = search rules
 
-sub-m : tie.Need-overflow-sub-m invariant_loop decreases_loop
+sub-m : tie.Need-overflow_sub-m invariant_loop decreases_loop
 sub-m c =
-    let h : 2 ^ c.before.before.loop.v ≤ c.before.before.before.before.args.mask = c.before.before.before.before.requires.1 c.before.before.loop.v c.before.before.loop.invariant.0 (omega arith) in
+    let h : 2 ^ c.loop-v.v ≤ c.args.mask = c.requires.1 c.loop-v.v c.loop-v.invariant.0 (omega arith) in
     omega arith
 
-mul-take-lesser : tie.Need-overflow-mul-take-lesser invariant_loop decreases_loop
+mul-take-lesser : tie.Need-offset_bounds-table-m invariant_loop decreases_loop
 mul-take-lesser c = search rules
 
-shared-slice-read-take-lesser : tie.Need-shared-slice-read-take-lesser invariant_loop decreases_loop
+shared-slice-read-take-lesser : tie.Need-bounds-table-m invariant_loop decreases_loop
 shared-slice-read-take-lesser c = search rules
 
-take-lesser-requires : tie.Need-take-lesser-requires invariant_loop decreases_loop
+take-lesser-requires : tie.Need-take_lesser-best-requires invariant_loop decreases_loop
 take-lesser-requires c κs = search rules
 
-add-v : tie.Need-overflow-add-v invariant_loop decreases_loop
+add-v : tie.Need-overflow_add-v invariant_loop decreases_loop
 add-v c = search rules
 
-loop-less : tie.Need-loop-smaller invariant_loop decreases_loop
+loop-less : tie.Need-loop-v-smaller invariant_loop decreases_loop
 loop-less c = search rules
 
-loop-again : tie.Need-loop-preserved invariant_loop decreases_loop
+loop-again : tie.Need-loop-v-preserved invariant_loop decreases_loop
 loop-again c =
-    (omega arith, leave_turn c.before.before.before.before.before.before.args.table.now c.before.before.before.before.before.before.args.n c.before.before.before.before.before.before.args.mask _ _ (least c.before.before.before.before.loop.best.cost c.before.before.before.before.loop.best.at) _ _ (omega arith) c.before.before.power.ensures.0 c.before.before.before.before.loop.invariant.1 c.take-lesser.ensures)
+    (omega arith, leave_turn c.args.table.now c.args.n c.args.mask _ _ (least c.loop-v.best.cost c.loop-v.best.at) _ _ (omega arith) c.power.ensures.0 c.loop-v.invariant.1 c.take_lesser-best.ensures)
 
 returns : tie.Need-returns invariant_loop decreases_loop
 returns c =
-    leave_over c.before.before.before.args.table.now c.before.before.before.args.n c.before.before.before.args.mask c.before.loop.v _ _ (omega arith) c.before.loop.invariant.1
+    leave_over c.args.table.now c.args.n c.args.mask c.loop-v.v _ _ (omega arith) c.loop-v.invariant.1
 
 pub leave_from_spec : {M : Type 1} → statement M
 leave_from_spec =

@@ -10,65 +10,65 @@ use Rattle.repair_table.specs.Tables.{costs}
 use Rattle.repair_optimal.proofs.left_out.Statement.{statement}
 use Rattle.repair_optimal.proofs.left_out.Tie as tie
 
-abbrev invariant_loop : tie.invariant_loop
+abbrev invariant_loop : tie.invariant-loop-u
 invariant_loop table n full first best₀ u₀ best u =
     (0 < u) × (leave_each (n - u) (costs table) full u (least best.cost best.at) ≡ left_out n (costs table))
 
-abbrev decreases_loop : tie.decreases_loop
+abbrev decreases_loop : tie.decreases-loop-u
 decreases_loop table n full first best₀ u₀ best u = n - u
 
-power-requires : tie.Need-power-requires invariant_loop decreases_loop
+power-requires : tie.Need-power-full-requires invariant_loop decreases_loop
 power-requires c κs = search rules
 
-sub-full : tie.Need-overflow-sub-full invariant_loop decreases_loop
+sub-full : tie.Need-overflow_sub-full invariant_loop decreases_loop
 sub-full c = search rules
 
-sub-first : tie.Need-overflow-sub-first invariant_loop decreases_loop
-sub-first c = omega (arith, four c.before.before.args.n c.before.before.requires.0)
+sub-first : tie.Need-overflow_sub-first invariant_loop decreases_loop
+sub-first c = omega (arith, four c.args.n c.requires.0)
 
-mul-t9 : tie.Need-overflow-mul-t9 invariant_loop decreases_loop
+mul-t9 : tie.Need-offset_bounds-table-first invariant_loop decreases_loop
 mul-t9 c = search rules
 
-shared-slice-read-t11 : tie.Need-shared-slice-read-t11 invariant_loop decreases_loop
-shared-slice-read-t11 c = omega (arith, four c.before.before.before.args.n c.before.before.before.requires.0)
+shared-slice-read-t11 : tie.Need-bounds-table-first invariant_loop decreases_loop
+shared-slice-read-t11 c = omega (arith, four c.args.n c.requires.0)
 
-sub-leave-from : tie.Need-overflow-sub-leave-from invariant_loop decreases_loop
-sub-leave-from c = omega (arith, four c.before.before.before.args.n c.before.before.before.requires.0)
+sub-leave-from : tie.Need-overflow_sub-full-2 invariant_loop decreases_loop
+sub-leave-from c = omega (arith, four c.args.n c.requires.0)
 
-leave-from-requires : tie.Need-leave-from-requires invariant_loop decreases_loop
+leave-from-requires : tie.Need-leave_from-best-requires invariant_loop decreases_loop
 leave-from-requires c κs =
-    ((omega arith, omega (arith, four c.before.before.before.args.n c.before.before.before.requires.0), omega arith), λ v l. later_fits c.before.before.before.args.n 0 c.before.power.result 1 c.before.power.ensures.0 refl (omega arith) v (omega arith))
+    ((omega arith, omega (arith, four c.args.n c.requires.0), omega arith), λ v l. later_fits c.args.n 0 c.power-full.result 1 c.power-full.ensures.0 refl (omega arith) v (omega arith))
 
-loop-holds : tie.Need-loop-init invariant_loop decreases_loop
+loop-holds : tie.Need-loop-u-init invariant_loop decreases_loop
 loop-holds c =
-    (omega arith, each_begin c.before.before.before.before.args.table.now c.before.before.before.before.args.n _ _ c.before.before.power.ensures.0 c.leave-from.ensures)
+    (omega arith, each_begin c.args.table.now c.args.n _ _ c.power-full.ensures.0 c.leave_from-best.ensures)
 
-power-requires-2 : tie.Need-power-requires-2 invariant_loop decreases_loop
+power-requires-2 : tie.Need-power-requires invariant_loop decreases_loop
 power-requires-2 c κs = search rules
 
-sub-mask : tie.Need-overflow-sub-mask invariant_loop decreases_loop
-sub-mask c = omega (arith, power_most c.before.before.before.before.before.before.before.args.n c.before.before.loop.u (omega arith))
+sub-mask : tie.Need-overflow_sub-mask invariant_loop decreases_loop
+sub-mask c = omega (arith, power_most c.args.n c.loop-u.u (omega arith))
 
-add-leave-from : tie.Need-overflow-add-leave-from invariant_loop decreases_loop
+add-leave-from : tie.Need-overflow_add-u invariant_loop decreases_loop
 add-leave-from c = search rules
 
-leave-from-requires-2 : tie.Need-leave-from-requires-2 invariant_loop decreases_loop
+leave-from-requires-2 : tie.Need-leave_from-best-requires-in-loop-u invariant_loop decreases_loop
 leave-from-requires-2 c κs =
-    ((omega arith, omega (arith, four c.before.before.before.before.before.before.before.args.n c.before.before.before.before.before.before.before.requires.0), omega arith), later_fits c.before.before.before.before.before.before.before.args.n c.before.before.loop.u c.before.before.before.before.before.power.result c.power2.result c.before.before.before.before.before.power.ensures.0 c.power2.ensures.0 (omega arith))
+    ((omega arith, omega (arith, four c.args.n c.requires.0), omega arith), later_fits c.args.n c.loop-u.u c.power-full.result c.power.result c.power-full.ensures.0 c.power.ensures.0 (omega arith))
 
-add-u : tie.Need-overflow-add-u invariant_loop decreases_loop
+add-u : tie.Need-overflow_add-u-in-loop-u invariant_loop decreases_loop
 add-u c = search rules
 
-loop-less : tie.Need-loop-smaller invariant_loop decreases_loop
+loop-less : tie.Need-loop-u-smaller invariant_loop decreases_loop
 loop-less c = search rules
 
-loop-again : tie.Need-loop-preserved invariant_loop decreases_loop
+loop-again : tie.Need-loop-u-preserved invariant_loop decreases_loop
 loop-again c =
-    (omega arith, each_turn c.before.before.before.before.before.before.before.before.args.table.now c.before.before.before.before.before.before.before.before.args.n (c.before.before.before.before.before.before.power.result - 1) c.before.before.before.loop.u c.before.power2.result (least c.before.before.before.loop.best.cost c.before.before.before.loop.best.at) _ _ (omega arith) c.before.power2.ensures.0 c.before.before.before.loop.invariant.1 c.leave-from2.ensures)
+    (omega arith, each_turn c.args.table.now c.args.n (c.power-full.result - 1) c.loop-u.u c.power.result (least c.loop-u.best.cost c.loop-u.best.at) _ _ (omega arith) c.power.ensures.0 c.loop-u.invariant.1 c.leave_from-best-in-loop-u.ensures)
 
 returns : tie.Need-returns invariant_loop decreases_loop
 returns c =
-    each_over c.before.before.before.before.before.before.args.table.now c.before.before.before.before.before.before.args.n (c.before.before.before.before.power.result - 1) c.before.loop.u (least c.before.loop.best.cost c.before.loop.best.at) _ (omega arith) c.before.loop.invariant.1
+    each_over c.args.table.now c.args.n (c.power-full.result - 1) c.loop-u.u (least c.loop-u.best.cost c.loop-u.best.at) _ (omega arith) c.loop-u.invariant.1
 
 pub left_out_spec : {M : Type 1} → statement M
 left_out_spec =

@@ -11,31 +11,31 @@ use Rattle.repair_optimal.proofs.optimal_pairs.Tie as tie
 fill-requires : tie.Need-fill-requires
 fill-requires c κs = search rules
 
-left-out-requires : tie.Need-left-out-requires
+left-out-requires : tie.Need-left_out-mask-requires
 left-out-requires c κs = search rules
 
-sub-count : tie.Need-overflow-sub-count
+sub-count : tie.Need-overflow_sub-count
 sub-count c = search rules
 
-read-pairs-requires : tie.Need-read-pairs-requires
+read-pairs-requires : tie.Need-read_pairs-requires
 read-pairs-requires c κs =
-    let pre = c.before.before.before.before.before.before.before.before.before.before.before.before.before.before.requires.0 in
-    let f = c.before.before.before.before.before.before.before.before.before.fill.ensures in
+    let pre = c.requires.0 in
+    let f = c.fill.ensures in
     let l = filled_left _ _ _ _ pre.2 pre.0 pre.1 f in
-    ((pre.1, rw c.before.before.before.left_out.ensures l.0, search rules, omega arith, rw c.before.before.before.left_out.ensures l.1, rw c.before.before.before.left_out.ensures l.2), (filled_partnered _ _ _ _ pre.2 pre.0 pre.1 f, pre.3))
+    ((pre.1, rw c.left_out-mask.ensures l.0, search rules, omega arith, rw c.left_out-mask.ensures l.1, rw c.left_out-mask.ensures l.2), (filled_partnered _ _ _ _ pre.2 pre.0 pre.1 f, pre.3))
 
-same_length : tie.Need-same-length
+same_length : tie.Need-shape_of-table
 same_length c = search rules
 
-same-length-2 : tie.Need-same-length-2
+same-length-2 : tie.Need-shape_of-partners
 same-length-2 c = search rules
 
 returns : tie.Need-returns
 returns c =
-    let pre = c.before.before.before.before.before.before.before.before.before.before.before.before.before.before.before.requires.0 in
-    let f = c.before.before.before.before.before.before.before.before.before.before.fill.ensures in
-    let o = filled_optimal _ _ _ _ pre.2 pre.0 pre.1 f _ c.before.before.before.before.left_out.ensures in
-    c.read_pairs.ensures ∙ ap (map (pair_of (node_at c.before.before.before.before.before.before.before.before.before.before.before.before.before.before.before.args.odd.now))) o
+    let pre = c.requires.0 in
+    let f = c.fill.ensures in
+    let o = filled_optimal _ _ _ _ pre.2 pre.0 pre.1 f _ c.left_out-mask.ensures in
+    c.read_pairs.ensures ∙ ap (map (pair_of (node_at c.args.odd.now))) o
 
 pub optimal_pairs_spec : {M : Type 1} → statement M
 optimal_pairs_spec =

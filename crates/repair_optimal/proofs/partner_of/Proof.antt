@@ -3,7 +3,7 @@ use borrow.Author.Rules.{rules}
 use Rattle.repair_optimal.proofs.partner_of.Statement.{statement}
 use Rattle.repair_optimal.proofs.partner_of.Tie as tie
 
-shared-slice-read-wide : tie.Need-shared-slice-read-wide
+shared-slice-read-wide : tie.Need-bounds-partners-m
 shared-slice-read-wide c = search rules
 
 wide-requires : tie.Need-wide-requires
@@ -11,7 +11,7 @@ wide-requires c κs = search rules
 
 returns : tie.Need-returns
 returns c =
-    let h = c.before.before.before.requires.1 _ c.before.before.before.requires.0.0 c.before.before.before.requires.0.1 c.before.before.before.requires.0.2 c.before.before.before.requires.0.3 in
+    let h = c.requires.1 _ c.requires.0.0 c.requires.0.1 c.requires.0.2 c.requires.0.3 in
     (c.wide.ensures, rw c.wide.ensures h.0, rw c.wide.ensures h.1)
 
 pub partner_of_spec : {M : Type 1} → statement M

@@ -16,54 +16,47 @@ use Rattle.repair_pairs.proofs.pairs_of.Tie as tie
 abbrev entry : tie.Start → Adjacency
 entry b = adjacency b.args.ends.now b.args.weights.now b.args.next.now b.args.heads.now
 
-returns : tie.Need-returns
+returns : tie.Need-returns-then-count-le2
 returns c =
-    let b = c.before.before.before in
-    pairs_none (graph_in b.args.n b.args.m b.args.xs.now b.args.ys.now (entry b)) (settings_of b.args.settings) (odd_nodes b.args.n (edges_in b.args.m (entry b))) _ _ (omega (arith, b.requires.1.1.0.counts, c.if1.true))
+    pairs_none (graph_in c.args.n c.args.m c.args.xs.now c.args.ys.now (entry c.before.before.before)) (settings_of c.args.settings) (odd_nodes c.args.n (edges_in c.args.m (entry c.before.before.before))) _ _ (omega (arith, c.requires.1.1.0.counts, c.if-count-le2.true))
 
-greedy-pairs-requires : tie.Need-greedy-pairs-requires
+greedy-pairs-requires : tie.Need-greedy_pairs-requires
 greedy-pairs-requires c κs =
-    let b = c.before.before.before.before.before.before.before.before in
-    (b.requires.0, odd_nodes_lem b.args.n b.args.m (entry b) b.requires.1.0 b.args.odd.now b.args.count b.requires.1.1.0, b.requires.1.1.1.1)
+    (c.requires.0, odd_nodes_lem c.args.n c.args.m (entry c.before.before.before.before.before.before.before.before) c.requires.1.0 c.args.odd.now c.args.count c.requires.1.1.0, c.requires.1.1.1.1)
 
-returns-2 : tie.Need-returns-2
+returns-2 : tie.Need-returns-then-settings-ne-OPTIMAL
 returns-2 c =
-    let b = c.before.before.before.before.before.before.before.before.before in
-    c.greedy-pairs.ensures.0
-    ∙ greedy_is b.args.n b.args.m (entry b) b.requires.1.0 b.args.odd.now b.args.count b.requires.1.1.0 b.args.xs.now b.args.ys.now
-    ∙ pairs_greedy b.args.n b.args.m b.args.xs.now b.args.ys.now (entry b) (settings_of b.args.settings) (odd_nodes b.args.n (edges_in b.args.m (entry b))) c.before.before.before.before.if2.true
+    c.greedy_pairs.ensures.0
+    ∙ greedy_is c.args.n c.args.m (entry c.before.before.before.before.before.before.before.before.before) c.requires.1.0 c.args.odd.now c.args.count c.requires.1.1.0 c.args.xs.now c.args.ys.now
+    ∙ pairs_greedy c.args.n c.args.m c.args.xs.now c.args.ys.now (entry c.before.before.before.before.before.before.before.before.before) (settings_of c.args.settings) (odd_nodes c.args.n (edges_in c.args.m (entry c.before.before.before.before.before.before.before.before.before))) c.if-settings-ne-OPTIMAL.true
 
-busy-pairs-requires : tie.Need-busy-pairs-requires
+busy-pairs-requires : tie.Need-busy_pairs-requires
 busy-pairs-requires c κs =
-    let b = c.before.before.before.before.before.before.before.before.before.before in
-    (b.requires.0, (b.requires.1.0, ((b.requires.1.1.0, c.before.before.before.before.before.before.before.if1.false), (room_busy (settings_of b.args.settings) _ _ _ c.before.before.before.before.before.if2.false c.before.before.before.before.if3.true b.requires.1.1.1.0, b.requires.1.1.1.1))))
+    (c.requires.0, (c.requires.1.0, ((c.requires.1.1.0, c.if-count-le2.false), (room_busy (settings_of c.args.settings) _ _ _ c.if-settings-ne-OPTIMAL.false c.if-busy.true c.requires.1.1.1.0, c.requires.1.1.1.1))))
 
-same_length : tie.Need-same-length
+same_length : tie.Need-shape_of-floats-then-busy
 same_length c = search rules
 
-returns-3 : tie.Need-returns-3
+returns-3 : tie.Need-returns-then-busy
 returns-3 c =
-    let b = c.before.before.before.before.before.before.before.before.before.before.before.before.before in
-    c.before.before.busy-pairs.ensures
-    ∙ pairs_busy b.args.n b.args.m b.args.xs.now b.args.ys.now (entry b) (settings_of b.args.settings) (odd_nodes b.args.n (edges_in b.args.m (entry b))) c.before.before.before.before.before.before.before.before.if2.false (omega (arith, b.requires.1.1.0.counts, c.before.before.before.before.before.before.before.if3.true))
+    c.busy_pairs.ensures
+    ∙ pairs_busy c.args.n c.args.m c.args.xs.now c.args.ys.now (entry c.before.before.before.before.before.before.before.before.before.before.before.before) (settings_of c.args.settings) (odd_nodes c.args.n (edges_in c.args.m (entry c.before.before.before.before.before.before.before.before.before.before.before.before))) c.if-settings-ne-OPTIMAL.false (omega (arith, c.requires.1.1.0.counts, c.if-busy.true))
 
-optimal-of-requires : tie.Need-optimal-of-requires
+optimal-of-requires : tie.Need-optimal_of-requires
 optimal-of-requires c κs =
-    let b = c.before.before.before.before.before.before.before.before.before.before.before in
-    let four = odd_four b.args.n b.args.m (entry b) b.requires.1.0 b.args.odd.now b.args.count b.requires.1.1.0 c.before.before.before.before.before.before.before.before.if1.false in
-    (b.requires.1.0, ((b.requires.1.1.0, c.before.before.before.before.before.before.before.before.if1.false), (room_left (settings_of b.args.settings) _ _ _ c.before.before.before.before.before.before.if2.false four.0 c.before.before.before.before.before.if3.false b.requires.1.1.1.0, b.requires.1.1.1.1)))
+    let four = odd_four c.args.n c.args.m (entry c.before.before.before.before.before.before.before.before.before.before) c.requires.1.0 c.args.odd.now c.args.count c.requires.1.1.0 c.if-count-le2.false in
+    (c.requires.1.0, ((c.requires.1.1.0, c.if-count-le2.false), (room_left (settings_of c.args.settings) _ _ _ c.if-settings-ne-OPTIMAL.false four.0 c.if-busy.false c.requires.1.1.1.0, c.requires.1.1.1.1)))
 
-same-length-2 : tie.Need-same-length-2
+same-length-2 : tie.Need-shape_of-floats
 same-length-2 c = search rules
 
-same-length-3 : tie.Need-same-length-3
+same-length-3 : tie.Need-shape_of-bytes
 same-length-3 c = search rules
 
-returns-4 : tie.Need-returns-4
+returns-4 : tie.Need-returns
 returns-4 c =
-    let b = c.before.before.before.before.before.before.before.before.before.before.before.before.before.before.before.before in
-    c.before.before.before.before.optimal-of.ensures
-    ∙ pairs_optimal b.args.n b.args.m b.args.xs.now b.args.ys.now (entry b) (settings_of b.args.settings) (odd_nodes b.args.n (edges_in b.args.m (entry b))) c.before.before.before.before.before.before.before.before.before.before.before.if2.false (omega (arith, b.requires.1.1.0.counts, c.before.before.before.before.before.before.before.before.before.before.if3.false))
+    c.optimal_of.ensures
+    ∙ pairs_optimal c.args.n c.args.m c.args.xs.now c.args.ys.now (entry c.before.before.before.before.before.before.before.before.before.before.before.before.before.before.before) (settings_of c.args.settings) (odd_nodes c.args.n (edges_in c.args.m (entry c.before.before.before.before.before.before.before.before.before.before.before.before.before.before.before))) c.if-settings-ne-OPTIMAL.false (omega (arith, c.requires.1.1.0.counts, c.if-busy.false))
 
 pub pairs_of_spec : {M : Type 1} → statement M
 pairs_of_spec =

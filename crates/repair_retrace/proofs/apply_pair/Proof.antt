@@ -23,94 +23,76 @@ entry c = adjacency c.args.ends.now c.args.weights.now c.args.next.now c.args.he
 abbrev edges : tie.Start → List Edge
 edges c = edges_in c.args.m (entry c)
 
-abbrev start : tie.After-shortest-path → tie.Start
-start c = c.before.before.before.before.before.before.before.before.before
-
-abbrev nodes : tie.After-shortest-path → List ℕ
-nodes c = c.shortest-path.new.1.1.1.1.1.1.1.1.1.0
+abbrev nodes : tie.After-shortest_path-way → List ℕ
+nodes c = c.shortest_path-way.new.path
 
 -- the way, by the answer that a branch found
-way_of : (c : tie.After-shortest-path) (way : Way) → c.shortest-path.result ≡ way → way_in (nodes c) way ≡ shortest_path (start c).args.n (edges (start c)) (start c).args.from (start c).args.to
-way_of c way e = subst (λ (w : Way). way_in (nodes c) w ≡ shortest_path (start c).args.n (edges (start c)) (start c).args.from (start c).args.to) e c.shortest-path.ensures.0
+way_of : (c : tie.After-shortest_path-way) (way : Way) → c.shortest_path-way.result ≡ way → way_in (nodes c) way ≡ shortest_path c.args.n (edges c.before.before.before.before.before) c.args.from c.args.to
+way_of c way e = subst (λ (w : Way). way_in (nodes c) w ≡ shortest_path c.args.n (edges c.before.before.before.before.before) c.args.from c.args.to) e c.shortest_path-way.ensures.0
 
-long : (c : tie.After-shortest-path) → length (nodes c) ≡ most_nodes
-long c = c.shortest-path.ensures.1.0
+long : (c : tie.After-shortest_path-way) → length (nodes c) ≡ most_nodes
+long c = c.shortest_path-way.ensures.1.0
 
 -- where one is found: its place in the array
-abbrev place : tie.After-way → ℕ
-place c = c.way.given.0.0
+abbrev place : tie.In-Found → ℕ
+place c = c.in-Found.first
 
-abbrev searched : tie.After-way → tie.After-shortest-path
-searched c = c.before.before
+is_way : (c : tie.In-Found)
+    → found (drop (place c) (nodes c.before)) ≡ shortest_path c.args.n (edges c.before.before.before.before.before.before) c.args.from c.args.to
+is_way c = way_of c.before _ c.in-Found.is
 
-is_way : (c : tie.After-way)
-    → found (drop (place c) (nodes (searched c))) ≡ shortest_path (start (searched c)).args.n (edges (start (searched c))) (start (searched c)).args.from (start (searched c)).args.to
-is_way c = way_of (searched c) _ c.way.given.1
-
-place_inside : (c : tie.After-way) → place c < most_nodes
+place_inside : (c : tie.In-Found) → place c < most_nodes
 place_inside c =
-    let b = start (searched c) in
-    first_inside b.args.n (edges b) b.pre.1.edges.inside b.args.from b.args.to b.pre.0.0 (nodes (searched c)) (long (searched c)) (place c) (is_way c)
+    first_inside c.args.n (edges c.before.before.before.before.before.before) c.requires.1.edges.inside c.args.from c.args.to c.requires.0.0 (nodes c.before) (long c.before) (place c) (is_way c)
 
-shortest-path-requires : tie.Need-shortest-path-requires
+shortest-path-requires : tie.Need-shortest_path-way-requires
 shortest-path-requires c κs = search rules
 
-enum-known-way : tie.Need-enum-known-way
+enum-known-way : tie.Need-enum_known-way
 enum-known-way c = search rules
 
-enum_told : tie.Need-enum-told
+enum_told : tie.Need-enum_told-1
 enum_told c = search rules
 
-returns : tie.Need-returns
+returns : tie.Need-returns-in_default
 returns c =
-    let f = c.before.before in
-    let a = (start f).args in
-    (answers_missing a.most a.number a.n a.m a.from a.to a.sum (entry (start f)) _ (way_of f _ c.enum_told.given.1), f.shortest-path.ensures.1.1)
+    let a = c.args in
+    (answers_missing a.most a.number a.n a.m a.from a.to a.sum (entry c.before.before.before.before.before.before) _ (way_of c.before _ c.in_default.is), c.shortest_path-way.ensures.1.1)
 
-sub-count : tie.Need-overflow-sub-count
+sub-count : tie.Need-overflow_sub-count
 sub-count c = search rules
 
-sub-count-2 : tie.Need-overflow-sub-count-2
-sub-count-2 c = omega (arith, place_inside c.before)
+sub-count-2 : tie.Need-overflow_sub-count-2
+sub-count-2 c = omega (arith, place_inside c)
 
-add-count : tie.Need-overflow-add-count
-add-count c = omega (arith, (start (searched c.before)).requires.1.room)
+add-count : tie.Need-overflow_add-count
+add-count c = omega (arith, c.requires.1.room)
 
-returns-2 : tie.Need-returns-2
+returns-2 : tie.Need-returns-then-past_most
 returns-2 c =
-    let w = c.before.before in
-    let f = searched w in
-    let a = (start f).args in
-    (answers_over a.most a.number a.n a.m a.from a.to a.sum (entry (start f)) _ (nodes f) (long f) (place w) (is_way w) c.if1.true, f.shortest-path.ensures.1.1)
+    let a = c.args in
+    (answers_over a.most a.number a.n a.m a.from a.to a.sum (entry c.before.before.before.before.before.before.before) _ (nodes c.before.before) (long c.before.before) (place c.before) (is_way c.before) c.if-past_most.true, c.shortest_path-way.ensures.1.1)
 
-lay-path-requires : tie.Need-lay-path-requires
-lay-path-requires c κs =
-    let e = c.before.before.before.before.before in
-    let w = e.before.before in
-    let f = searched w in
-    let b = start f in (
-      (
-        place_inside w,
-        omega (arith, e.if1.false, b.pre.0.2),
-        long f,
-        nodes_inside b.args.n (edges b) b.pre.1.edges.inside b.args.from b.args.to b.pre.0.0 (nodes f) (long f) (place w) (is_way w),
-      ),
-      (
-        neighbours_apart b.args.n (edges b) b.pre.1.edges.inside b.args.from b.args.to b.pre.0.0 (nodes f) (long f) (place w) (is_way w) b.pre.1.edges.apart,
-        b.pre.1.edges,
-      ),
-    )
+lay-path-requires : tie.Need-lay_path-total-requires
+lay-path-requires c κs = (
+  (
+    place_inside c.before.before.before.before.before.before,
+    omega (arith, c.if-past_most.false, c.requires.0.2),
+    long c.before.before.before.before.before.before.before,
+    nodes_inside c.args.n (edges c.before.before.before.before.before.before.before.before.before.before.before.before) c.requires.1.edges.inside c.args.from c.args.to c.requires.0.0 (nodes c.before.before.before.before.before.before.before) (long c.before.before.before.before.before.before.before) (place c.before.before.before.before.before.before) (is_way c.before.before.before.before.before.before),
+  ),
+  (
+    neighbours_apart c.args.n (edges c.before.before.before.before.before.before.before.before.before.before.before.before) c.requires.1.edges.inside c.args.from c.args.to c.requires.0.0 (nodes c.before.before.before.before.before.before.before) (long c.before.before.before.before.before.before.before) (place c.before.before.before.before.before.before) (is_way c.before.before.before.before.before.before) c.requires.1.edges.apart,
+    c.requires.1.edges,
+  ),
+)
 
-returns-3 : tie.Need-returns-3
+returns-3 : tie.Need-returns
 returns-3 c =
-    let e = c.before.before.before.before.before.before in
-    let w = e.before.before in
-    let f = searched w in
-    let b = start f in
-    let a = b.args in (
-      answers_laid a.most a.number a.n a.m a.from a.to a.sum (entry b) _ (nodes f) (long f) (place w) (is_way w) b.pre.0.2 b.pre.1 (omega (arith, e.if1.false))
-          c.lay-path.result c.lay-path.ensures.0 c.lay-path.ensures.1,
-      f.shortest-path.ensures.1.1,
+    let a = c.args in (
+      answers_laid a.most a.number a.n a.m a.from a.to a.sum (entry c.before.before.before.before.before.before.before.before.before.before.before.before.before) _ (nodes c.before.before.before.before.before.before.before.before) (long c.before.before.before.before.before.before.before.before) (place c.before.before.before.before.before.before.before) (is_way c.before.before.before.before.before.before.before) c.requires.0.2 c.requires.1 (omega (arith, c.if-past_most.false))
+          c.lay_path-total.result c.lay_path-total.ensures.0 c.lay_path-total.ensures.1,
+      c.shortest_path-way.ensures.1.1,
     )
 
 pub apply_pair_spec : {M : Type 1} → statement M

@@ -11,38 +11,35 @@ use Rattle.repair_search.proofs.Touched.{below_infinity}
 use Rattle.repair_search.proofs.offer.Statement.{statement}
 use Rattle.repair_search.proofs.offer.Tie as tie
 
-mul-if1 : tie.Need-overflow-mul-if1
+mul-if1 : tie.Need-offset_bounds-dist-v
 mul-if1 c = search rules
 
-element-copy-out-if1 : tie.Need-element-copy-out-if1
+element-copy-out-if1 : tie.Need-bounds-dist-v
 element-copy-out-if1 c = search rules
 
-touch-requires : tie.Need-touch-requires
-touch-requires c κs = let b = c.before.before.before.before in (b.requires.0.0, b.requires.0.1, b.requires.0.2.long, b.requires.1)
+touch-requires : tie.Need-touch-more-requires
+touch-requires c κs = (c.requires.0.0, c.requires.0.1, c.requires.0.2.long, c.requires.1)
 
-mul-dist : tie.Need-overflow-mul-dist
+mul-dist : tie.Need-offset_bounds-dist-v-then-cost-dist
 mul-dist c = search rules
 
-element-write-dist : tie.Need-element-write-dist
+element-write-dist : tie.Need-bounds-dist-v-then-cost-dist
 element-write-dist c = search rules
 
 store-requires : tie.Need-store-requires
-store-requires c κs = let b = c.before.before.before.before.before.before in (b.requires.0.0, b.requires.0.1, b.requires.0.2.tree, b.requires.0.3)
+store-requires c κs = (c.requires.0.0, c.requires.0.1, c.requires.0.2.tree, c.requires.0.3)
 
-returns : tie.Need-returns
+returns : tie.Need-returns-then-cost-dist
 returns c =
-    let t = c.before.before.before.before.before in
-    let b = c.before.before.before.before.before.before.before in
-    let p = b.requires.0 in
-    let low : lt b.args.cost (distance_at b.args.dist.now b.args.v) ≡ true = ap (lt b.args.cost) (get_d_inside b.args.dist.now b.args.v infinity nan (omega (arith, p.2.long, p.0, p.1))) ∙ t.if1.true in (
-      offer_lower b.args.n b.args.v b.args.cost b.args.dist.now b.args.tree.now p.0 p.1 p.2 p.3 t.if1.true _ c.store.ensures,
-      c.before.before.touch.ensures b.args.cost (below_infinity b.args.cost (distance_at b.args.dist.now b.args.v) p.3 (p.2.nonneg b.args.v) low),
+    let p = c.requires.0 in
+    let low : lt c.args.cost (distance_at c.args.dist.now c.args.v) ≡ true = ap (lt c.args.cost) (get_d_inside c.args.dist.now c.args.v infinity nan (omega (arith, p.2.long, p.0, p.1))) ∙ c.if-cost-dist.true in (
+      offer_lower c.args.n c.args.v c.args.cost c.args.dist.now c.args.tree.now p.0 p.1 p.2 p.3 c.if-cost-dist.true _ c.store.ensures,
+      c.touch-more.ensures c.args.cost (below_infinity c.args.cost (distance_at c.args.dist.now c.args.v) p.3 (p.2.nonneg c.args.v) low),
     )
 
-returns-2 : tie.Need-returns-2
+returns-2 : tie.Need-returns
 returns-2 c =
-    let b = c.before.before in
-    (offer_not b.args.n b.args.v b.args.cost b.args.dist.now b.args.tree.now b.requires.0.0 b.requires.0.1 b.requires.0.2 c.if1.false, b.requires.1)
+    (offer_not c.args.n c.args.v c.args.cost c.args.dist.now c.args.tree.now c.requires.0.0 c.requires.0.1 c.requires.0.2 c.if-cost-dist.false, c.requires.1)
 
 pub offer_spec : {M : Type 1} → statement M
 offer_spec =

@@ -11,48 +11,42 @@ use Rattle.repair_search.proofs.Touched.{listed_again, listed_room, listed_first
 use Rattle.repair_search.proofs.touch.Statement.{statement}
 use Rattle.repair_search.proofs.touch.Tie as tie
 
-mul-if1 : tie.Need-overflow-mul-if1
+mul-if1 : tie.Need-offset_bounds-dist-v
 mul-if1 c = search rules
 
-element-copy-out-if1 : tie.Need-element-copy-out-if1
+element-copy-out-if1 : tie.Need-bounds-dist-v
 element-copy-out-if1 c = search rules
 
 infinity-requires : tie.Need-infinity-requires
 infinity-requires c κs = search rules
 
-returns : tie.Need-returns
+returns : tie.Need-returns-then-dist-v
 returns c =
-    let f = c.before in
-    let b = f.before.before in
-    listed_again b.args.n b.requires.0 b.args.dist.now b.requires.2 b.args.touched.now b.args.count b.requires.3 b.args.v b.requires.1
-    (ap (lt (get_or b.args.dist.now b.args.v nan)) (sym f.infinity.ensures) ∙ c.if1.true)
+    listed_again c.args.n c.requires.0 c.args.dist.now c.requires.2 c.args.touched.now c.args.count c.requires.3 c.args.v c.requires.1
+    (ap (lt (get_or c.args.dist.now c.args.v nan)) (sym c.infinity.ensures) ∙ c.if-dist-v.true)
 
-cast-touched : tie.Need-overflow-cast-touched
+cast-touched : tie.Need-overflow_cast-touched
 cast-touched c = search rules
 
 -- there is room for one node more
-room : (c : tie.Else1) → c.before.before.before.args.count < most_nodes
+room : (c : tie.Else-dist-v) → c.args.count < most_nodes
 room c =
-    let f = c.before in
-    let b = f.before.before in
-    listed_room b.args.n b.requires.0 b.args.dist.now b.requires.2 b.args.touched.now b.args.count b.requires.3 b.args.v b.requires.1
-    (ap (lt (get_or b.args.dist.now b.args.v nan)) (sym f.infinity.ensures) ∙ c.if1.false)
+    listed_room c.args.n c.requires.0 c.args.dist.now c.requires.2 c.args.touched.now c.args.count c.requires.3 c.args.v c.requires.1
+    (ap (lt (get_or c.args.dist.now c.args.v nan)) (sym c.infinity.ensures) ∙ c.if-dist-v.false)
 
-mul-touched : tie.Need-overflow-mul-touched
+mul-touched : tie.Need-offset_bounds-touched-count
 mul-touched c = omega (arith, room c)
 
-element-write-touched : tie.Need-element-write-touched
-element-write-touched c = room c
+element-write-touched : tie.Need-bounds-touched-count
+element-write-touched c = room c.before
 
-add-result : tie.Need-overflow-add-result
-add-result c = omega (arith, room c)
+add-result : tie.Need-overflow_add-result
+add-result c = omega (arith, room c.before)
 
-returns-2 : tie.Need-returns-2
+returns-2 : tie.Need-returns
 returns-2 c =
-    let f = c.before in
-    let b = f.before.before in
-    listed_first b.args.n b.requires.0 b.args.dist.now b.requires.2 b.args.touched.now b.args.count b.requires.3 b.args.v b.requires.1
-    (ap (lt (get_or b.args.dist.now b.args.v nan)) (sym f.infinity.ensures) ∙ c.if1.false)
+    listed_first c.args.n c.requires.0 c.args.dist.now c.requires.2 c.args.touched.now c.args.count c.requires.3 c.args.v c.requires.1
+    (ap (lt (get_or c.args.dist.now c.args.v nan)) (sym c.infinity.ensures) ∙ c.if-dist-v.false)
 
 pub touch_spec : {M : Type 1} → statement M
 touch_spec =

@@ -8,71 +8,62 @@ use Rattle.repair_sweep.proofs.Sweeps.{Clearing, clearing_begin, clearing_step, 
 use Rattle.repair_sweep.proofs.clear.Statement.{statement}
 use Rattle.repair_sweep.proofs.clear.Tie as tie
 
-abbrev invariant_loop : tie.invariant_loop
+abbrev invariant_loop : tie.invariant-loop-j
 invariant_loop dist₀ done₀ touched n count infinity j₀ dist done j = Clearing touched count j dist done
 
-abbrev decreases_loop : tie.decreases_loop
+abbrev decreases_loop : tie.decreases-loop-j
 decreases_loop dist₀ done₀ touched n count infinity j₀ dist done j = count - j
 
 -- the place is one of the list
-inside : (c : tie.In-loop invariant_loop decreases_loop) → c.before.loop.j < most_nodes
+inside : (c : tie.In-loop-j invariant_loop decreases_loop) → c.loop-j.j < most_nodes
 inside c =
-    let b = c.before.before.before in
-    omega (arith, c.loop-test.true, listed_few b.args.n b.args.dist.now b.args.touched.now b.args.count b.requires.1.reached.listed b.requires.1.reached.long)
+    omega (arith, c.loop-j-test.true, listed_few c.args.n c.args.dist.now c.args.touched.now c.args.count c.requires.1.reached.listed c.requires.1.reached.long)
 
 -- what the list has there is a node
-node : (c : tie.After-wide invariant_loop decreases_loop) → c.wide.result < most_nodes
+node : (c : tie.After-wide-v invariant_loop decreases_loop) → c.wide-v.result < most_nodes
 node c =
-    let i = c.before.before in
-    let b = i.before.before.before in
-    omega (arith, c.wide.ensures, b.requires.0, b.requires.1.reached.listed.nodes i.before.loop.j i.loop-test.true)
+    omega (arith, c.wide-v.ensures, c.requires.0, c.requires.1.reached.listed.nodes c.loop-j.j c.loop-j-test.true)
 
-infinity-requires : tie.Need-infinity-requires invariant_loop decreases_loop
+infinity-requires : tie.Need-infinity-infinity-requires invariant_loop decreases_loop
 infinity-requires c κs = search rules
 
-loop-holds : tie.Need-loop-init invariant_loop decreases_loop
-loop-holds c = let b = c.before in clearing_begin b.args.n b.args.touched.now b.args.count b.args.dist.now b.args.done.now b.requires.1
+loop-holds : tie.Need-loop-j-init invariant_loop decreases_loop
+loop-holds c = clearing_begin c.args.n c.args.touched.now c.args.count c.args.dist.now c.args.done.now c.requires.1
 
-mul_wide : tie.Need-overflow-mul-wide invariant_loop decreases_loop
+mul_wide : tie.Need-offset_bounds-touched-j invariant_loop decreases_loop
 mul_wide c = omega (arith, inside c)
 
-element-copy-out-wide : tie.Need-element-copy-out-wide invariant_loop decreases_loop
-element-copy-out-wide c = inside c
+element-copy-out-wide : tie.Need-bounds-touched-j invariant_loop decreases_loop
+element-copy-out-wide c = inside c.before
 
-wide-requires : tie.Need-wide-requires invariant_loop decreases_loop
+wide-requires : tie.Need-wide-v-requires invariant_loop decreases_loop
 wide-requires c κs = search rules
 
-mul-dist : tie.Need-overflow-mul-dist invariant_loop decreases_loop
+mul-dist : tie.Need-offset_bounds-dist-v invariant_loop decreases_loop
 mul-dist c = omega (arith, node c)
 
-element-write-dist : tie.Need-element-write-dist invariant_loop decreases_loop
+element-write-dist : tie.Need-bounds-dist-v invariant_loop decreases_loop
 element-write-dist c = node c
 
-mul-done : tie.Need-overflow-mul-done invariant_loop decreases_loop
+mul-done : tie.Need-offset_bounds-done-v invariant_loop decreases_loop
 mul-done c = omega (arith, node c)
 
-element-write-done : tie.Need-element-write-done invariant_loop decreases_loop
+element-write-done : tie.Need-bounds-done-v invariant_loop decreases_loop
 element-write-done c = node c
 
-add-j : tie.Need-overflow-add-j invariant_loop decreases_loop
-add-j c = omega (arith, inside c.before.before)
+add-j : tie.Need-overflow_add-j invariant_loop decreases_loop
+add-j c = omega (arith, inside c.before.before.before)
 
-loop-less : tie.Need-loop-smaller invariant_loop decreases_loop
-loop-less c = omega (arith, c.before.before.loop-test.true)
+loop-less : tie.Need-loop-j-smaller invariant_loop decreases_loop
+loop-less c = omega (arith, c.loop-j-test.true)
 
-loop-again : tie.Need-loop-preserved invariant_loop decreases_loop
+loop-again : tie.Need-loop-j-preserved invariant_loop decreases_loop
 loop-again c =
-    let i = c.before.before in
-    let l = i.before in
-    let f = l.before in
-    let b = f.before in
-    clearing_step b.args.touched.now b.args.count l.loop.j l.loop.dist l.loop.done l.loop.invariant i.loop-test.true f.infinity.result f.infinity.ensures c.wide.result c.wide.ensures (node c)
+    clearing_step c.args.touched.now c.args.count c.loop-j.j c.loop-j.dist c.loop-j.done c.loop-j.invariant c.loop-j-test.true c.infinity-infinity.result c.infinity-infinity.ensures c.wide-v.result c.wide-v.ensures (node c)
 
 returns : tie.Need-returns invariant_loop decreases_loop
 returns c =
-    let l = c.before in
-    let b = l.before.before in
-    clearing_end b.args.touched.now b.args.count l.loop.j l.loop.dist l.loop.done l.loop.invariant (omega (arith, c.loop-test.false)) b.requires.1.reached.listed.long
+    clearing_end c.args.touched.now c.args.count c.loop-j.j c.loop-j.dist c.loop-j.done c.loop-j.invariant (omega (arith, c.loop-j-test.false)) c.requires.1.reached.listed.long
 
 pub clear_spec : {M : Type 1} → statement M
 clear_spec =

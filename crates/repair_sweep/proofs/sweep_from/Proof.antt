@@ -15,11 +15,11 @@ use Rattle.repair_sweep.proofs.Sweeps.{unswept_long, looked_begin, sweeping_begi
 use Rattle.repair_sweep.proofs.sweep_from.Statement.{statement}
 use Rattle.repair_sweep.proofs.sweep_from.Tie as tie
 
-abbrev invariant_loop : tie.invariant_loop
+abbrev invariant_loop : tie.invariant-loop-left
 invariant_loop ends weights next heads n m dist₀ done₀ touched₀ s count₀ left₀ dist done touched count left =
     Looked n dist done touched count × Sweeping (edges_in m (adjacency ends weights next heads)) s dist done
 
-abbrev decreases_loop : tie.decreases_loop
+abbrev decreases_loop : tie.decreases-loop-left
 decreases_loop ends weights next heads n m dist₀ done₀ touched₀ s count₀ left₀ dist done touched count left = left
 
 abbrev graph : tie.Start invariant_loop decreases_loop → Adjacency
@@ -29,60 +29,51 @@ graph c = adjacency c.args.ends.now c.args.weights.now c.args.next.now c.args.he
 in_room : (b : tie.Start invariant_loop decreases_loop) → b.args.s < most_nodes
 in_room b = omega (arith, b.requires.0.0, b.requires.1.edges.few_nodes)
 
-touch-requires : tie.Need-touch-requires invariant_loop decreases_loop
+touch-requires : tie.Need-touch-count-requires invariant_loop decreases_loop
 touch-requires c κs =
-    let b = c.before.before in
-    let N = b.requires.0.1 in
-    (b.requires.1.edges.few_nodes, b.requires.0.0, unswept_long b.args.s (in_room b) b.args.dist.now b.args.done.now b.args.touched.now N, rw N.none (listed_none b.args.n b.args.touched.now N.room))
+    let N = c.requires.0.1 in
+    (c.requires.1.edges.few_nodes, c.requires.0.0, unswept_long c.args.s (in_room c.before) c.args.dist.now c.args.done.now c.args.touched.now N, rw N.none (listed_none c.args.n c.args.touched.now N.room))
 
-mul-dist : tie.Need-overflow-mul-dist invariant_loop decreases_loop
-mul-dist c = omega (arith, in_room c.before.before.before)
+mul-dist : tie.Need-offset_bounds-dist-s invariant_loop decreases_loop
+mul-dist c = omega (arith, in_room c.before.before)
 
-element-write-dist : tie.Need-element-write-dist invariant_loop decreases_loop
-element-write-dist c = in_room c.before.before.before
+element-write-dist : tie.Need-bounds-dist-s invariant_loop decreases_loop
+element-write-dist c = in_room c.before.before
 
-loop-holds : tie.Need-loop-init invariant_loop decreases_loop
+loop-holds : tie.Need-loop-left-init invariant_loop decreases_loop
 unfolding of_bits
 loop-holds c =
-    let b = c.before.before.before in
-    let N = b.requires.0.1 in (
-      looked_begin b.args.s (in_room b) b.args.dist.now b.args.done.now b.args.touched.now N b.args.n _ c.touch.result (c.touch.ensures zero_length zero_below),
-      sweeping_begin b.args.s (in_room b) b.args.dist.now b.args.done.now b.args.touched.now N (edges_in b.args.m (graph b)) b.requires.1.searchable.weights,
+    let N = c.requires.0.1 in (
+      looked_begin c.args.s (in_room c.before.before) c.args.dist.now c.args.done.now c.args.touched.now N c.args.n _ c.touch-count.result (c.touch-count.ensures zero_length zero_below),
+      sweeping_begin c.args.s (in_room c.before.before) c.args.dist.now c.args.done.now c.args.touched.now N (edges_in c.args.m (graph c.before.before)) c.requires.1.searchable.weights,
     )
 
-sweep-requires : tie.Need-sweep-requires invariant_loop decreases_loop
-sweep-requires c κs = let l = c.before.before.before.before in (l.loop.invariant.0, l.before.before.before.before.requires.1)
+sweep-requires : tie.Need-sweep-count-requires invariant_loop decreases_loop
+sweep-requires c κs = (c.loop-left.invariant.0, c.requires.1)
 
 settled-requires : tie.Need-settled-requires invariant_loop decreases_loop
 settled-requires c κs =
-    let w = c.before.before.before in
-    (w.before.before.before.before.before.before.before.before.before.requires.1.edges.few_nodes, w.sweep.ensures.1)
+    (c.requires.1.edges.few_nodes, c.sweep-count.ensures.1)
 
-returns : tie.Need-returns invariant_loop decreases_loop
-returns c =
-    let e = c.before in
-    let w = e.before.before.before.before in
-    let l = w.before.before.before.before.before in
-    let b = l.before.before.before.before in (
-      λ t.
-          settled_found b.args.n b.args.m (graph b) b.requires.1 b.args.s _ _ _ w.sweep.result w.sweep.ensures.1 (w.sweep.ensures.0 b.args.s l.loop.invariant.1) (e.settled.ensures c.if1.true) most_nodes,
-      w.sweep.ensures.1,
-    )
+returns : tie.Need-returns-then-settled invariant_loop decreases_loop
+returns c = (
+  λ t.
+      settled_found c.args.n c.args.m (graph c.before.before.before.before.before.before.before.before.before.before) c.requires.1 c.args.s _ _ _ c.sweep-count.result c.sweep-count.ensures.1 (c.sweep-count.ensures.0 c.args.s c.loop-left.invariant.1) (c.settled.ensures c.if-settled.true) most_nodes,
+  c.sweep-count.ensures.1,
+)
 
-sub-left : tie.Need-overflow-sub-left invariant_loop decreases_loop
+sub-left : tie.Need-overflow_sub-left invariant_loop decreases_loop
 sub-left c = search rules
 
-loop-less : tie.Need-loop-smaller invariant_loop decreases_loop
+loop-less : tie.Need-loop-left-smaller invariant_loop decreases_loop
 loop-less c = search rules
 
-loop-again : tie.Need-loop-preserved invariant_loop decreases_loop
+loop-again : tie.Need-loop-left-preserved invariant_loop decreases_loop
 loop-again c =
-    let w = c.before.before.before.before.before in
-    let l = w.before.before.before.before.before in
-    (w.sweep.ensures.1, w.sweep.ensures.0 l.before.before.before.before.args.s l.loop.invariant.1)
+    (c.sweep-count.ensures.1, c.sweep-count.ensures.0 c.args.s c.loop-left.invariant.1)
 
-returns-2 : tie.Need-returns-2 invariant_loop decreases_loop
-returns-2 c = (λ t. absurd (true≢false (sym t)), c.before.loop.invariant.0)
+returns-2 : tie.Need-returns invariant_loop decreases_loop
+returns-2 c = (λ t. absurd (true≢false (sym t)), c.loop-left.invariant.0)
 
 pub sweep_from_spec : {M : Type 1} → statement M
 sweep_from_spec =

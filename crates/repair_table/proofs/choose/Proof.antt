@@ -6,27 +6,27 @@ use borrow.Author.Rules.{rules}
 use Rattle.repair_table.proofs.choose.Statement.{statement}
 use Rattle.repair_table.proofs.choose.Tie as tie
 
-lowest-requires : tie.Need-lowest-requires
+lowest-requires : tie.Need-lowest-i-requires
 lowest-requires c κs = search rules
 
 power-requires : tie.Need-power-requires
 power-requires c κs = search rules
 
-sub-others : tie.Need-overflow-sub-others
+sub-others : tie.Need-overflow_sub-others
 sub-others c = search rules
 
-row-of-requires : tie.Need-row-of-requires
+row-of-requires : tie.Need-row_of-row-requires
 row-of-requires c κs = search rules
 
-try-partners-requires : tie.Need-try-partners-requires
+try-partners-requires : tie.Need-try_partners-requires
 try-partners-requires c κs =
-    let pre = c.before.before.before.before.requires.0 in
-    let h = others_left _ _ _ _ c.before.before.lowest.ensures.place c.before.power.ensures.0 pre.0 pre.1 pre.2 pre.3 in
+    let pre = c.requires.0 in
+    let h = others_left _ _ _ _ c.lowest-i.ensures.place c.power.ensures.0 pre.0 pre.1 pre.2 pre.3 in
     omega arith
 
 returns : tie.Need-returns
 returns c =
-    (c.try-partners.ensures.0 ∙ chosen_entry c.before.before.before.before.before.args.table.now c.before.before.before.before.before.args.n c.before.before.before.before.before.args.m _ _ _ c.before.before.before.lowest.ensures.place c.before.before.power.ensures.0 c.before.row_of.ensures.0, c.try-partners.ensures.1)
+    (c.try_partners.ensures.0 ∙ chosen_entry c.args.table.now c.args.n c.args.m _ _ _ c.lowest-i.ensures.place c.power.ensures.0 c.row_of-row.ensures.0, c.try_partners.ensures.1)
 
 pub choose_spec : {M : Type 1} → statement M
 choose_spec =

@@ -5,7 +5,7 @@ use lib.Count.{trailing_le}
 use Rattle.repair_table.proofs.lowest.Statement.{statement}
 use Rattle.repair_table.proofs.lowest.Tie as tie
 
-cast-result : tie.Need-overflow-cast-result
+cast-result : tie.Need-overflow_cast-result
 cast-result c = omega (arith, trailing_le 64 c.args.m)
 
 returns : tie.Need-returns

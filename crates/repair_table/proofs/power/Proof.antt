@@ -4,7 +4,7 @@ use borrow.Author.Rules.{rules}
 use Rattle.repair_table.proofs.power.Statement.{statement}
 use Rattle.repair_table.proofs.power.Tie as tie
 
-shl-result : tie.Need-overflow-shl-result
+shl-result : tie.Need-overflow_shl-result
 shl-result c = search rules
 
 returns : tie.Need-returns

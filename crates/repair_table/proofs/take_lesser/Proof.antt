@@ -4,11 +4,11 @@ use Rattle.repair_masks.specs.Table.{least}
 use Rattle.repair_table.proofs.take_lesser.Statement.{statement}
 use Rattle.repair_table.proofs.take_lesser.Tie as tie
 
-returns : tie.Need-returns
-returns c = lesser_taken (least c.before.args.b.cost c.before.args.b.at) _ _ c.if1.true
+returns : tie.Need-returns-then-c-best
+returns c = lesser_taken (least c.args.b.cost c.args.b.at) _ _ c.if-c-best.true
 
-returns-2 : tie.Need-returns-2
-returns-2 c = lesser_kept (least c.before.args.b.cost c.before.args.b.at) _ _ c.if1.false
+returns-2 : tie.Need-returns
+returns-2 c = lesser_kept (least c.args.b.cost c.args.b.at) _ _ c.if-c-best.false
 
 pub take_lesser_spec : {M : Type 1} → statement M
 take_lesser_spec = tie.close (tie.spec returns returns-2)

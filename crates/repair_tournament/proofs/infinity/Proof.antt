@@ -4,7 +4,7 @@ use lib.Ieee.{nan_bits, of_bits}
 use Rattle.repair_tournament.proofs.infinity.Statement.{statement}
 use Rattle.repair_tournament.proofs.infinity.Tie as tie
 
-float-from-bits-result : tie.Need-float-from-bits-result
+float-from-bits-result : tie.Need-float_from_bits-result
 unfolding nan_bits
 float-from-bits-result c = search rules
 

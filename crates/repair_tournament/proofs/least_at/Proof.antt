@@ -4,29 +4,29 @@ use borrow.Author.Rules.{rules}
 use Rattle.repair_tournament.proofs.least_at.Statement.{statement}
 use Rattle.repair_tournament.proofs.least_at.Tie as tie
 
-add-differ : tie.Need-overflow-add-differ
+add-differ : tie.Need-overflow_add-n
 add-differ c = search rules
 
-mul-differ : tie.Need-overflow-mul-differ
+mul-differ : tie.Need-offset_bounds-tree-n
 mul-differ c = search rules
 
-element-copy-out-differ : tie.Need-element-copy-out-differ
+element-copy-out-differ : tie.Need-bounds-tree-n
 element-copy-out-differ c = search rules
 
-element-copy-out-differ-2 : tie.Need-element-copy-out-differ-2
+element-copy-out-differ-2 : tie.Need-bounds-tree-1
 element-copy-out-differ-2 c = search rules
 
 differ-requires : tie.Need-differ-requires
-differ-requires c κs = let b = c.before.before in (b.requires.2.nonneg _ (omega (arith, b.requires.0, b.requires.1)), b.requires.2.nonneg _ (omega arith))
+differ-requires c κs = (c.requires.2.nonneg _ (omega (arith, c.requires.0, c.requires.1)), c.requires.2.nonneg _ (omega arith))
 
 least-requires : tie.Need-least-requires
 least-requires c κs = search rules
 
-returns : tie.Need-returns
+returns : tie.Need-returns-then-differ
 returns c = search rules
 
-returns-2 : tie.Need-returns-2
-returns-2 c = (search rules, c.before.differ.ensures c.if1.false)
+returns-2 : tie.Need-returns
+returns-2 c = (search rules, c.differ.ensures c.if-differ.false)
 
 pub least_at_spec : {M : Type 1} → statement M
 least_at_spec =

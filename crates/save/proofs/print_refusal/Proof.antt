@@ -7,22 +7,21 @@ use borrow.Author.Rules.{rules}
 use Rattle.save.proofs.print_refusal.Statement.{statement}
 use Rattle.save.proofs.print_refusal.Tie as tie
 
-slice-aggregate-put-refusal : tie.Need-slice-aggregate-put-refusal
+slice-aggregate-put-refusal : tie.Need-slice_bounds-put_refusal-end
 slice-aggregate-put-refusal c = search rules
 
-put-refusal-requires : tie.Need-put-refusal-requires
+put-refusal-requires : tie.Need-put_refusal-k-requires
 put-refusal-requires c κs = search rules
 
-array-share-prefix-text : tie.Need-array-share-prefix-text
+array-share-prefix-text : tie.Need-slice_bounds-text-end
 array-share-prefix-text c = search rules
 
-slice-aggregate-write-all : tie.Need-slice-aggregate-write-all
+slice-aggregate-write-all : tie.Need-slice_bounds-write_all-end
 slice-aggregate-write-all c =
-    let p = c.before.before.put-refusal in
-    let few : p.result ≤ length p.new.0 = search rules in
-    sym (length-take-le p.result p.new.0 few)
+    let few : c.put_refusal-k.result ≤ length c.put_refusal-k.new.text = search rules in
+    sym (length-take-le c.put_refusal-k.result c.put_refusal-k.new.text few)
 
-write-all-requires : tie.Need-write-all-requires
+write-all-requires : tie.Need-write_all-requires
 write-all-requires c κs = search rules
 
 returns : tie.Need-returns

@@ -4,28 +4,28 @@ use borrow.Author.Rules.{rules}
 use Rattle.test_data.proofs.read.Statement.{statement}
 use Rattle.test_data.proofs.read.Tie as tie
 
-abbrev invariant_loop : tie.invariant_loop
+abbrev invariant_loop : tie.invariant-loop-left
 invariant_loop «data» at count text value₀ left₀ value left = left ≤ count
 
-abbrev decreases_loop : tie.decreases_loop
+abbrev decreases_loop : tie.decreases-loop-left
 decreases_loop «data» at count text value₀ left₀ value left = left
 
-loop-holds : tie.Need-loop-init invariant_loop decreases_loop
+loop-holds : tie.Need-loop-left-init invariant_loop decreases_loop
 loop-holds c = search rules
 
-sub-left : tie.Need-overflow-sub-left invariant_loop decreases_loop
+sub-left : tie.Need-overflow_sub-left invariant_loop decreases_loop
 sub-left c = search rules
 
 part-requires : tie.Need-part-requires invariant_loop decreases_loop
 part-requires c κs = search rules
 
-joined-requires : tie.Need-joined-requires invariant_loop decreases_loop
+joined-requires : tie.Need-joined-value-requires invariant_loop decreases_loop
 joined-requires c κs = search rules
 
-loop-less : tie.Need-loop-smaller invariant_loop decreases_loop
+loop-less : tie.Need-loop-left-smaller invariant_loop decreases_loop
 loop-less c = search rules
 
-loop-again : tie.Need-loop-preserved invariant_loop decreases_loop
+loop-again : tie.Need-loop-left-preserved invariant_loop decreases_loop
 loop-again c = search rules
 
 returns : tie.Need-returns invariant_loop decreases_loop

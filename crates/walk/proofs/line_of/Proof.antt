@@ -13,16 +13,15 @@ use Rattle.walk.proofs.line_of.Tie as tie
 abbrev edges : tie.Start → List Edge
 edges c = edges_in c.args.m (adjacency c.args.ends.now c.args.weights.now c.args.next.now c.args.heads.now)
 
-hierholzer-requires : tie.Need-hierholzer-requires
+hierholzer-requires : tie.Need-hierholzer-count-requires
 hierholzer-requires c κs = search rules
 
-orient-path-requires : tie.Need-orient-path-requires
+orient-path-requires : tie.Need-orient_path-requires
 orient-path-requires c κs = search rules
 
 returns : tie.Need-returns
 returns c =
-    let b = c.before.before.before.before.before.before.before.before in
-    (c.orient-path.ensures.0 ∙ line_turned (settings_of b.args.settings) b.args.n b.args.xs.now b.args.ys.now (edges b) _ c.before.before.hierholzer.ensures.0, c.orient-path.ensures.1)
+    (c.orient_path.ensures.0 ∙ line_turned (settings_of c.args.settings) c.args.n c.args.xs.now c.args.ys.now (edges c.before.before.before.before.before.before.before.before) _ c.hierholzer-count.ensures.0, c.orient_path.ensures.1)
 
 pub line_of_spec : {M : Type 1} → statement M
 line_of_spec = tie.close (tie.spec hierholzer-requires orient-path-requires returns)

@@ -10,17 +10,16 @@ use Rattle.walk_euler.proofs.open_line.Tie as tie
 abbrev arrays : tie.Start → Adjacency
 arrays c = adjacency c.args.ends.now c.args.weights.now c.args.next.now c.args.heads.now
 
-push-edge-requires : tie.Need-push-edge-requires
+push-edge-requires : tie.Need-push_edge-requires
 push-edge-requires c κs = search rules
 
-add-circuit : tie.Need-overflow-add-circuit
+add-circuit : tie.Need-overflow_add-m
 add-circuit c = search rules
 
-circuit-requires : tie.Need-circuit-requires
+circuit-requires : tie.Need-circuit-first-requires
 unfolding of_bits
 circuit-requires c κs =
-    let b = c.before.before.before.before.before.before.before.before.before.before.before in
-    (b.requires.0.2, virtual_linked _ _ _ _ (arrays b) _ b.requires.1.1.1 b.requires.1.1.0 b.requires.0.0 b.requires.0.1 c.before.before.before.before.before.before.push-edge.ensures b.requires.1.0)
+    (c.requires.0.2, virtual_linked _ _ _ _ (arrays c.before.before.before.before.before.before.before) _ c.requires.1.1.1 c.requires.1.1.0 c.requires.0.0 c.requires.0.1 c.push_edge.ensures c.requires.1.0)
 
 cut-requires : tie.Need-cut-requires
 cut-requires c κs = search rules
@@ -28,9 +27,8 @@ cut-requires c κs = search rules
 returns : tie.Need-returns
 unfolding of_bits
 returns c =
-    let b = c.before.before.before.before.before.before.before.before.before.before.before.before.before.before.before.before in
-    let walked = c.before.before.before.before.circuit.ensures in (
-      c.cut.ensures.0 ∙ open_is _ _ _ _ (arrays b) _ b.requires.1.1.1 b.requires.1.1.0 b.requires.0.0 b.requires.0.1 c.before.before.before.before.before.before.before.before.before.before.before.push-edge.ensures _ _ _ _ walked.0,
+    let walked = c.circuit-first.ensures in (
+      c.cut.ensures.0 ∙ open_is _ _ _ _ (arrays c.before.before.before.before.before.before.before.before.before.before.before.before) _ c.requires.1.1.1 c.requires.1.1.0 c.requires.0.0 c.requires.0.1 c.push_edge.ensures _ _ _ _ walked.0,
       c.cut.ensures.1 _ walked.1,
     )
 

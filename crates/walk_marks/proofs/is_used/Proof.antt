@@ -6,13 +6,13 @@ use Rattle.walk_marks.proofs.Marks.{mark_at_lem}
 use Rattle.walk_marks.proofs.is_used.Statement.{statement}
 use Rattle.walk_marks.proofs.is_used.Tie as tie
 
-mul-word : tie.Need-overflow-mul-word
+mul-word : tie.Need-offset_bounds-marks-i
 mul-word c = search rules
 
-element-copy-out-word : tie.Need-element-copy-out-word
+element-copy-out-word : tie.Need-bounds-marks-i
 element-copy-out-word c = search rules
 
-shr-result : tie.Need-overflow-shr-result
+shr-result : tie.Need-overflow_shr-result
 shr-result c = search rules
 
 returns : tie.Need-returns

@@ -9,16 +9,16 @@ use Rattle.walk_marks.proofs.Marks.{shifted_one, marks_set}
 use Rattle.walk_marks.proofs.mark_used.Statement.{statement}
 use Rattle.walk_marks.proofs.mark_used.Tie as tie
 
-shl-marks : tie.Need-overflow-shl-marks
+shl-marks : tie.Need-overflow_shl-marks
 shl-marks c = search rules
 
-mul-marks : tie.Need-overflow-mul-marks
+mul-marks : tie.Need-offset_bounds-marks-i
 mul-marks c = search rules
 
-element-copy-out-marks : tie.Need-element-copy-out-marks
+element-copy-out-marks : tie.Need-bounds-marks-i
 element-copy-out-marks c = search rules
 
-element-write-marks : tie.Need-element-write-marks
+element-write-marks : tie.Need-bounds-marks-i-2
 element-write-marks c = search rules
 
 returns : tie.Need-returns

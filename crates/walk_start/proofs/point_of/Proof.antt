@@ -3,16 +3,16 @@ use borrow.Author.Rules.{rules}
 use Rattle.walk_start.proofs.point_of.Statement.{statement}
 use Rattle.walk_start.proofs.point_of.Tie as tie
 
-mul-t4 : tie.Need-overflow-mul-t4
+mul-t4 : tie.Need-offset_bounds-xs-v
 mul-t4 c = search rules
 
-element-copy-out-t7 : tie.Need-element-copy-out-t7
+element-copy-out-t7 : tie.Need-bounds-xs-v
 element-copy-out-t7 c = search rules
 
-mul-t8 : tie.Need-overflow-mul-t8
+mul-t8 : tie.Need-offset_bounds-ys-v
 mul-t8 c = search rules
 
-element-copy-out-t11 : tie.Need-element-copy-out-t11
+element-copy-out-t11 : tie.Need-bounds-ys-v
 element-copy-out-t11 c = search rules
 
 returns : tie.Need-returns

@@ -9,44 +9,44 @@ use borrow.Author.Rules.{rules}
 use Rattle.writer_again.proofs.coordinates_of.Statement.{statement}
 use Rattle.writer_again.proofs.coordinates_of.Tie as tie
 
-abbrev invariant_loop : tie.invariant_loop
+abbrev invariant_loop : tie.invariant-loop-point
 invariant_loop xs ys points coordinates₀ point₀ coordinates point = Filling (λ (i : ℕ). bits_of (get_or xs i 0) (get_or ys i 0)) 2 (replicate (2 * most_points) 0) points point coordinates
 
-abbrev decreases_loop : tie.decreases_loop
+abbrev decreases_loop : tie.decreases-loop-point
 decreases_loop xs ys points coordinates₀ point₀ coordinates point = points - point
 
-loop-holds : tie.Need-loop-init invariant_loop decreases_loop
+loop-holds : tie.Need-loop-point-init invariant_loop decreases_loop
 loop-holds c = fill_start (λ (i : ℕ). bits_of (get_or c.args.xs.now i 0) (get_or c.args.ys.now i 0)) 2 (replicate (2 * most_points) 0) c.args.points
 
-mul-put-point : tie.Need-overflow-mul-put-point invariant_loop decreases_loop
+mul-put-point : tie.Need-overflow_mul-point invariant_loop decreases_loop
 mul-put-point c = search rules
 
-mul-put-point-2 : tie.Need-overflow-mul-put-point-2 invariant_loop decreases_loop
+mul-put-point-2 : tie.Need-offset_bounds-xs-point invariant_loop decreases_loop
 mul-put-point-2 c = search rules
 
-element-copy-out-put-point : tie.Need-element-copy-out-put-point invariant_loop decreases_loop
+element-copy-out-put-point : tie.Need-bounds-xs-point invariant_loop decreases_loop
 element-copy-out-put-point c = search rules
 
-mul-put-point-3 : tie.Need-overflow-mul-put-point-3 invariant_loop decreases_loop
+mul-put-point-3 : tie.Need-offset_bounds-ys-point invariant_loop decreases_loop
 mul-put-point-3 c = search rules
 
-element-copy-out-put-point-2 : tie.Need-element-copy-out-put-point-2 invariant_loop decreases_loop
+element-copy-out-put-point-2 : tie.Need-bounds-ys-point invariant_loop decreases_loop
 element-copy-out-put-point-2 c = search rules
 
-put-point-requires : tie.Need-put-point-requires invariant_loop decreases_loop
+put-point-requires : tie.Need-put_point-requires invariant_loop decreases_loop
 put-point-requires c κs = search rules
 
-add-point : tie.Need-overflow-add-point invariant_loop decreases_loop
+add-point : tie.Need-overflow_add-point invariant_loop decreases_loop
 add-point c = search rules
 
-loop-less : tie.Need-loop-smaller invariant_loop decreases_loop
+loop-less : tie.Need-loop-point-smaller invariant_loop decreases_loop
 loop-less c = search rules
 
-loop-again : tie.Need-loop-preserved invariant_loop decreases_loop
-loop-again c = fill_turn (λ (i : ℕ). bits_of (get_or c.before.before.before.before.before.before.args.xs.now i 0) (get_or c.before.before.before.before.before.before.args.ys.now i 0)) 2 (replicate (2 * most_points) 0) _ c.before.before.before.before.before.loop.point c.before.before.before.before.before.loop.coordinates c.before.before.before.before.before.loop.invariant c.before.before.before.before.loop-test.true refl (2 * c.before.before.before.before.before.loop.point) refl _ c.put-point.ensures
+loop-again : tie.Need-loop-point-preserved invariant_loop decreases_loop
+loop-again c = fill_turn (λ (i : ℕ). bits_of (get_or c.args.xs.now i 0) (get_or c.args.ys.now i 0)) 2 (replicate (2 * most_points) 0) _ c.loop-point.point c.loop-point.coordinates c.loop-point.invariant c.loop-point-test.true refl (2 * c.loop-point.point) refl _ c.put_point.ensures
 
 returns : tie.Need-returns invariant_loop decreases_loop
-returns c = fill_end (λ (i : ℕ). bits_of (get_or c.before.before.args.xs.now i 0) (get_or c.before.before.args.ys.now i 0)) 2 (replicate (2 * most_points) 0) _ c.before.loop.point c.before.loop.coordinates c.before.loop.invariant c.loop-test.false
+returns c = fill_end (λ (i : ℕ). bits_of (get_or c.args.xs.now i 0) (get_or c.args.ys.now i 0)) 2 (replicate (2 * most_points) 0) _ c.loop-point.point c.loop-point.coordinates c.loop-point.invariant c.loop-point-test.false
 
 pub coordinates_of_spec : {M : Type 1} → statement M
 coordinates_of_spec =

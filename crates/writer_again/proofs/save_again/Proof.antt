@@ -8,35 +8,32 @@ use borrow.Author.Rules.{rules}
 use Rattle.writer_again.proofs.save_again.Statement.{statement}
 use Rattle.writer_again.proofs.save_again.Tie as tie
 
-read-requires : tie.Need-read-requires
+read-requires : tie.Need-read-reading-requires
 read-requires c κs = search rules
 
-enum-known-verdict : tie.Need-enum-known-verdict
+enum-known-verdict : tie.Need-enum_known-verdict
 enum-known-verdict c = search rules
 
-enum_told : tie.Need-enum-told
+enum_told : tie.Need-enum_told-1
 enum_told c = search rules
 
-save-arrays-requires : tie.Need-save-arrays-requires
-save-arrays-requires c κs = let r = c.before.before.before.before in savable_again r.before.before.before.args.file.now r.read.result r.read.ensures c.before.before.enum_told.given.1
+save-arrays-requires : tie.Need-save_arrays-requires
+save-arrays-requires c κs = savable_again c.args.file.now c.read-reading.result c.read-reading.ensures c.in-Accepted.is
 
-returns : tie.Need-returns
+returns : tie.Need-returns-in-Refused
 returns c =
-    let r = c.before.before.before in
-    let a = r.before.before.before.args in
-    (refused_again a.file.now r.read.result r.read.ensures a.destination.now _ c.before.verdict.given.1, tt)
+    let a = c.args in
+    (refused_again a.file.now c.read-reading.result c.read-reading.ensures a.destination.now _ c.in-Refused.is, tt)
 
-same_length : tie.Need-same-length
+same_length : tie.Need-shape_of-destination
 same_length c = search rules
 
-returns-2 : tie.Need-returns-2
+returns-2 : tie.Need-returns-in-Accepted
 returns-2 c =
-    let r = c.before.before.before.before.before.before.before in
-    let a = r.before.before.before.args in
-    let b : All Byte a.file.now = all_by_place Byte 0 a.file.now (λ i. (r.before.before.shared-slice-known.given i).fits) in
-    let saved = c.before.before.save-arrays.ensures ∙ accepted_again a.file.now r.read.result r.read.ensures c.before.before.before.before.before.enum_told.given.1 b a.destination.now in
-    let w = c.before.before.save-arrays in
-    (saved, writes_cleaned a.file.now a.destination.now b w.result w.new.1.0 saved)
+    let a = c.args in
+    let b : All Byte a.file.now = all_by_place Byte 0 a.file.now (λ i. (c.shared_slice_known-1.given i).fits) in
+    let saved = c.save_arrays.ensures ∙ accepted_again a.file.now c.read-reading.result c.read-reading.ensures c.in-Accepted.is b a.destination.now in
+    (saved, writes_cleaned a.file.now a.destination.now b c.save_arrays.result c.save_arrays.new.destination saved)
 
 pub save_again_spec : {M : Type 1} → statement M
 save_again_spec =

@@ -7,59 +7,58 @@ use borrow.Author.Rules.{rules}
 use Rattle.writer_again.proofs.save_arrays.Statement.{statement}
 use Rattle.writer_again.proofs.save_arrays.Tie as tie
 
-sizes-of-requires : tie.Need-sizes-of-requires
+sizes-of-requires : tie.Need-sizes_of-sizes-requires
 sizes-of-requires c κs = search rules
 
-coordinates-of-requires : tie.Need-coordinates-of-requires
+coordinates-of-requires : tie.Need-coordinates_of-coordinates-requires
 coordinates-of-requires c κs = search rules
 
-mul-both : tie.Need-overflow-mul-both
+mul-both : tie.Need-overflow_mul-both
 mul-both c = search rules
 
-segments-of-requires : tie.Need-segments-of-requires
+segments-of-requires : tie.Need-segments_of-segments-requires
 segments-of-requires c κs = search rules
 
-ends-of-requires : tie.Need-ends-of-requires
+ends-of-requires : tie.Need-ends_of-ends-requires
 ends-of-requires c κs = search rules
 
-mul-four : tie.Need-overflow-mul-four
+mul-four : tie.Need-overflow_mul-four
 mul-four c = search rules
 
-array-share-prefix-sizes : tie.Need-array-share-prefix-sizes
+array-share-prefix-sizes : tie.Need-slice_bounds-sizes-end
 array-share-prefix-sizes c = search rules
 
-slice-aggregate-save : tie.Need-slice-aggregate-save
-slice-aggregate-save c = let s = c.before.before.before.before.before.before.before.before.before.before.before.before.before.before.before.before.before in sizes_lent s.args.drawing s.requires _ c.before.before.before.before.before.before.before.before.before.before.before.before.sizes-of.ensures
+slice-aggregate-save : tie.Need-slice_bounds-save-end
+slice-aggregate-save c = sizes_lent c.args.drawing c.requires _ c.sizes_of-sizes.ensures
 
-array-share-prefix-coordinates : tie.Need-array-share-prefix-coordinates
+array-share-prefix-coordinates : tie.Need-slice_bounds-coordinates-end
 array-share-prefix-coordinates c = search rules
 
-slice-aggregate-save-2 : tie.Need-slice-aggregate-save-2
-slice-aggregate-save-2 c = let s = c.before.before.before.before.before.before.before.before.before.before.before.before.before.before.before.before.before.before in coordinates_lent s.args.drawing s.requires _ c.before.before.before.before.before.before.before.before.coordinates-of.ensures
+slice-aggregate-save-2 : tie.Need-slice_bounds-save-end-2
+slice-aggregate-save-2 c = coordinates_lent c.args.drawing c.requires _ c.coordinates_of-coordinates.ensures
 
-array-share-prefix-segments : tie.Need-array-share-prefix-segments
+array-share-prefix-segments : tie.Need-slice_bounds-segments-end
 array-share-prefix-segments c = search rules
 
-slice-aggregate-save-3 : tie.Need-slice-aggregate-save-3
-slice-aggregate-save-3 c = let s = c.before.before.before.before.before.before.before.before.before.before.before.before.before.before.before.before.before.before.before in links_lent s.args.drawing s.requires segments_of (λ e. refl) _ c.before.before.before.before.before.before.segments-of.ensures
+slice-aggregate-save-3 : tie.Need-slice_bounds-save-end-3
+slice-aggregate-save-3 c = links_lent c.args.drawing c.requires segments_of (λ e. refl) _ c.segments_of-segments.ensures
 
-array-share-prefix-ends : tie.Need-array-share-prefix-ends
+array-share-prefix-ends : tie.Need-slice_bounds-ends-end
 array-share-prefix-ends c = search rules
 
-slice-aggregate-save-4 : tie.Need-slice-aggregate-save-4
-slice-aggregate-save-4 c = let s = c.before.before.before.before.before.before.before.before.before.before.before.before.before.before.before.before.before.before.before.before in links_lent s.args.drawing s.requires ends_of (λ e. refl) _ c.before.before.before.before.before.before.ends_of.ensures
+slice-aggregate-save-4 : tie.Need-slice_bounds-save-end-4
+slice-aggregate-save-4 c = links_lent c.args.drawing c.requires ends_of (λ e. refl) _ c.ends_of-ends.ensures
 
 save-requires : tie.Need-save-requires
 save-requires c κs = search rules
 
-same_length : tie.Need-same-length
+same_length : tie.Need-shape_of-destination
 same_length c = search rules
 
 returns : tie.Need-returns
 returns c =
-    let s = c.before.before.before.before.before.before.before.before.before.before.before.before.before.before.before.before.before.before.before.before.before.before.before in
-    c.before.before.save.ensures.0
-    ∙ ap (λ (g : Given). save_given g s.args.destination.now) (lent_given s.args.drawing s.requires _ _ _ _ c.before.before.before.before.before.before.before.before.before.before.before.before.before.before.before.before.before.before.sizes-of.ensures c.before.before.before.before.before.before.before.before.before.before.before.before.before.coordinates-of.ensures c.before.before.before.before.before.before.before.before.before.before.segments-of.ensures c.before.before.before.before.before.before.before.before.before.ends_of.ensures)
+    c.save.ensures.0
+    ∙ ap (λ (g : Given). save_given g c.args.destination.now) (lent_given c.args.drawing c.requires _ _ _ _ c.sizes_of-sizes.ensures c.coordinates_of-coordinates.ensures c.segments_of-segments.ensures c.ends_of-ends.ensures)
 
 pub save_arrays_spec : {M : Type 1} → statement M
 save_arrays_spec =

@@ -4,10 +4,10 @@ use borrow.Author.Rules.{rules}
 use Rattle.writer_checks.proofs.most_segment.Statement.{statement}
 use Rattle.writer_checks.proofs.most_segment.Tie as tie
 
-returns : tie.Need-returns
-returns c = omega (arith, c.if1.true)
+returns : tie.Need-returns-then-points-lt2
+returns c = omega (arith, c.if-points-lt2.true)
 
-returns-2 : tie.Need-returns-2
+returns-2 : tie.Need-returns
 returns-2 c = search rules
 
 pub most_segment_spec : {M : Type 1} → statement M

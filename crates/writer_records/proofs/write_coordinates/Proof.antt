@@ -9,53 +9,53 @@ use borrow.Author.Rules.{rules}
 use Rattle.writer_records.proofs.write_coordinates.Statement.{statement}
 use Rattle.writer_records.proofs.write_coordinates.Tie as tie
 
-abbrev invariant_loop : tie.invariant_loop
+abbrev invariant_loop : tie.invariant-loop-left
 invariant_loop destination₀ at words from count place₀ next₀ left₀ destination place next left = Putting 8 destination₀ at (map clean words) from count destination place next left × (place + 8 * left ≤ length destination₀) × (next + left ≤ length words)
 
-abbrev decreases_loop : tie.decreases_loop
+abbrev decreases_loop : tie.decreases-loop-left
 decreases_loop destination₀ at words from count place₀ next₀ left₀ destination place next left = left
 
-loop-holds : tie.Need-loop-init invariant_loop decreases_loop
-loop-holds c = (put_none_clean _ _ c.before.before.args.words.now _ _ c.before.before.requires.1, c.before.before.requires.0, c.before.before.requires.1)
+loop-holds : tie.Need-loop-left-init invariant_loop decreases_loop
+loop-holds c = (put_none_clean _ _ c.args.words.now _ _ c.requires.1, c.requires.0, c.requires.1)
 
-mul-clean : tie.Need-overflow-mul-clean invariant_loop decreases_loop
+mul-clean : tie.Need-offset_bounds-words-next invariant_loop decreases_loop
 mul-clean c = search rules
 
-shared-slice-read-clean : tie.Need-shared-slice-read-clean invariant_loop decreases_loop
+shared-slice-read-clean : tie.Need-bounds-words-next invariant_loop decreases_loop
 shared-slice-read-clean c = search rules
 
-clean-requires : tie.Need-clean-requires invariant_loop decreases_loop
+clean-requires : tie.Need-clean-word-requires invariant_loop decreases_loop
 clean-requires c κs = search rules
 
-write-number-requires : tie.Need-write-number-requires invariant_loop decreases_loop
+write-number-requires : tie.Need-write_number-requires invariant_loop decreases_loop
 write-number-requires c κs = search rules
 
-add-place : tie.Need-overflow-add-place invariant_loop decreases_loop
+add-place : tie.Need-overflow_add-place invariant_loop decreases_loop
 add-place c = search rules
 
-add-next : tie.Need-overflow-add-next invariant_loop decreases_loop
+add-next : tie.Need-overflow_add-next invariant_loop decreases_loop
 add-next c = search rules
 
-sub-left : tie.Need-overflow-sub-left invariant_loop decreases_loop
+sub-left : tie.Need-overflow_sub-left invariant_loop decreases_loop
 sub-left c = search rules
 
-loop-less : tie.Need-loop-smaller invariant_loop decreases_loop
+loop-less : tie.Need-loop-left-smaller invariant_loop decreases_loop
 loop-less c = search rules
 
-loop-again : tie.Need-loop-preserved invariant_loop decreases_loop
+loop-again : tie.Need-loop-left-preserved invariant_loop decreases_loop
 loop-again c =
-    let now = c.before.before.before.before.before.before.before.loop in
-    let words = c.before.before.before.before.before.before.before.before.before.before.args.words.now in (
-      put_more _ _ _ _ _ _ _ _ _ _ _ _ c.before.before.before.before.before.before.loop-test.true (clean_at words now.next _ c.before.before.before.before.clean.ensures) c.before.before.write-number.ensures now.invariant.0,
+    let now = c.loop-left in
+    let words = c.args.words.now in (
+      put_more _ _ _ _ _ _ _ _ _ _ _ _ c.loop-left-test.true (clean_at words now.next _ c.clean-word.ensures) c.write_number.ensures now.invariant.0,
       omega arith,
       omega arith,
     )
 
-same_length : tie.Need-same-length invariant_loop decreases_loop
+same_length : tie.Need-shape_of-destination invariant_loop decreases_loop
 same_length c = search rules
 
 returns : tie.Need-returns invariant_loop decreases_loop
-returns c = put_all _ _ _ _ _ _ _ _ _ _ c.loop-test.false c.before.loop.invariant.0
+returns c = put_all _ _ _ _ _ _ _ _ _ _ c.loop-left-test.false c.loop-left.invariant.0
 
 pub write_coordinates_spec : {M : Type 1} → statement M
 write_coordinates_spec =

@@ -4,26 +4,26 @@ use borrow.Author.Rules.{rules}
 use Rattle.writer_records.proofs.write_link.Statement.{statement}
 use Rattle.writer_records.proofs.write_link.Tie as tie
 
-write-head-requires : tie.Need-write-head-requires
+write-head-requires : tie.Need-write_head-requires
 write-head-requires c κs = search rules
 
-add-write-segments : tie.Need-overflow-add-write-segments
+add-write-segments : tie.Need-overflow_add-at
 add-write-segments c = search rules
 
-write-segments-requires : tie.Need-write-segments-requires
+write-segments-requires : tie.Need-write_segments-requires
 write-segments-requires c κs = search rules
 
-add-write-coordinates : tie.Need-overflow-add-write-coordinates
+add-write-coordinates : tie.Need-overflow_add-at-2
 add-write-coordinates c = search rules
 
-write-coordinates-requires : tie.Need-write-coordinates-requires
+write-coordinates-requires : tie.Need-write_coordinates-requires
 write-coordinates-requires c κs = search rules
 
-same_length : tie.Need-same-length
+same_length : tie.Need-shape_of-destination
 same_length c = search rules
 
 returns : tie.Need-returns
-returns c = link_stored_lem _ _ _ _ _ _ _ _ c.before.before.before.before.before.before.before.before.before.before.before.before.before.before.before.requires.1 c.before.before.before.before.before.before.before.before.before.before.write-head.ensures c.before.before.before.before.before.before.write-segments.ensures c.before.before.write-coordinates.ensures
+returns c = link_stored_lem _ _ _ _ _ _ _ _ c.requires.1 c.write_head.ensures c.write_segments.ensures c.write_coordinates.ensures
 
 pub write_link_spec : {M : Type 1} → statement M
 write_link_spec =

@@ -4,14 +4,14 @@ use Rattle.limits.specs.Limits.{most_lines, most_points}
 use Rattle.file_checks.proofs.heads.counts_fit.Statement.{statement}
 use Rattle.file_checks.proofs.heads.counts_fit.Tie as tie
 
-returns : tie.Need-returns
-returns c = rw (lt-leb c.before.args.lines most_lines c.if1.true)
+returns : tie.Need-returns-then-lines-gt-MOST_LINES
+returns c = rw (lt-leb c.args.lines most_lines c.if-lines-gt-MOST_LINES.true)
 
-returns-2 : tie.Need-returns-2
-returns-2 c = rw (le-leb c.before.before.args.lines most_lines c.before.if1.false, lt-leb c.before.before.args.points most_points c.if2.true)
+returns-2 : tie.Need-returns-then-many_points
+returns-2 c = rw (le-leb c.args.lines most_lines c.if-lines-gt-MOST_LINES.false, lt-leb c.args.points most_points c.if-many_points.true)
 
-returns-3 : tie.Need-returns-3
-returns-3 c = rw (le-leb c.before.before.args.lines most_lines c.before.if1.false, le-leb c.before.before.args.points most_points c.if2.false)
+returns-3 : tie.Need-returns
+returns-3 c = rw (le-leb c.args.lines most_lines c.if-lines-gt-MOST_LINES.false, le-leb c.args.points most_points c.if-many_points.false)
 
 pub counts_fit_spec : {M : Type 1} → statement M
 counts_fit_spec = tie.close (tie.spec returns returns-2 returns-3)

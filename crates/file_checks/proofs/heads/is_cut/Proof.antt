@@ -3,7 +3,7 @@ use mathlib.Core.Path.{◌≡◌, refl, sym, ap, ◌∙◌}
 use Prim.Native.Nat.{◌≤◌, ◌-◌}
 use native.Mathlib.Omega.{arith}
 use lib.ListN.{length}
-use borrow.Author.Tests.{not-true, not-false, leb-false}
+use borrow.Author.Tests.{leb-false}
 use Rattle.drawing_spec.specs.Read.{is_cut}
 use Rattle.file_records.specs.Walk.{next_at, cut_from}
 use Rattle.file_records.proofs.Walk.{cut_here, not_here, end_not_cut}
@@ -11,44 +11,44 @@ use Rattle.file_reader.proofs.Part.{within, behind_next}
 use Rattle.file_checks.proofs.heads.is_cut.Statement.{statement}
 use Rattle.file_checks.proofs.heads.is_cut.Tie as tie
 
-abbrev invariant_loop : tie.invariant_loop
+abbrev invariant_loop : tie.invariant-loop-at
 invariant_loop file at₀ at = (at ≤ length file) × (cut_from file at ≡ is_cut file)
 
-abbrev decreases_loop : tie.decreases_loop
+abbrev decreases_loop : tie.decreases-loop-at
 decreases_loop file at₀ at = length file - at
 
-loop-holds : tie.Need-loop-init invariant_loop decreases_loop
+loop-holds : tie.Need-loop-at-init invariant_loop decreases_loop
 loop-holds c = (omega arith, refl)
 
-whole-at-requires : tie.Need-whole-at-requires invariant_loop decreases_loop
+whole-at-requires : tie.Need-whole_at-whole-requires invariant_loop decreases_loop
 whole-at-requires c κs = tt
 
-returns : tie.Need-returns invariant_loop decreases_loop
+returns : tie.Need-returns-then-not-whole invariant_loop decreases_loop
 returns c =
-    let file = c.before.before.before.before.before.args.file.now in
-    let at = c.before.before.before.loop.at in
-    let cut = leb-false (next_at file at) (length file) (sym c.before.whole-at.ensures ∙ not_true _ c.if1.true) in
-    sym (cut_here file at c.before.before.loop-test.true cut) ∙ c.before.before.before.loop.invariant.1
+    let file = c.args.file.now in
+    let at = c.loop-at.at in
+    let cut = leb-false (next_at file at) (length file) (sym c.whole_at-whole.ensures ∙ c.if-not-whole.true) in
+    sym (cut_here file at c.loop-at-test.true cut) ∙ c.loop-at.invariant.1
 
-place-behind-requires : tie.Need-place-behind-requires invariant_loop decreases_loop
+place-behind-requires : tie.Need-place_behind-at-requires invariant_loop decreases_loop
 place-behind-requires c κs = tt
 
-loop-less : tie.Need-loop-smaller invariant_loop decreases_loop
+loop-less : tie.Need-loop-at-smaller invariant_loop decreases_loop
 loop-less c =
-    let file = c.before.before.before.before.before.before.args.file.now in
-    omega (arith, c.place-behind.ensures, behind_next file c.before.before.before.before.loop.at _ c.before.before.whole-at.ensures (not-false _ c.before.if1.false))
+    let file = c.args.file.now in
+    omega (arith, c.place_behind-at.ensures, behind_next file c.loop-at.at _ c.whole_at-whole.ensures (c.if-not-whole.false))
 
-loop-again : tie.Need-loop-preserved invariant_loop decreases_loop
+loop-again : tie.Need-loop-at-preserved invariant_loop decreases_loop
 loop-again c =
-    let file = c.before.before.before.before.before.before.args.file.now in
-    let at = c.before.before.before.before.loop.at in
-    let whole = not-false _ c.before.if1.false in
-    let r = within file at _ c.before.before.whole-at.ensures whole in
-    let next : c.place-behind.result ≡ next_at file at = c.place-behind.ensures ∙ behind_next file at _ c.before.before.whole-at.ensures whole in
-    (omega arith, ap (cut_from file) next ∙ sym (not_here file at c.before.before.before.loop-test.true r) ∙ c.before.before.before.before.loop.invariant.1)
+    let file = c.args.file.now in
+    let at = c.loop-at.at in
+    let whole = c.if-not-whole.false in
+    let r = within file at _ c.whole_at-whole.ensures whole in
+    let next : c.place_behind-at.result ≡ next_at file at = c.place_behind-at.ensures ∙ behind_next file at _ c.whole_at-whole.ensures whole in
+    (omega arith, ap (cut_from file) next ∙ sym (not_here file at c.loop-at-test.true r) ∙ c.loop-at.invariant.1)
 
-returns-2 : tie.Need-returns-2 invariant_loop decreases_loop
-returns-2 c = sym (end_not_cut c.before.before.before.args.file.now c.before.loop.at c.loop-test.false) ∙ c.before.loop.invariant.1
+returns-2 : tie.Need-returns invariant_loop decreases_loop
+returns-2 c = sym (end_not_cut c.args.file.now c.loop-at.at c.loop-at-test.false) ∙ c.loop-at.invariant.1
 
 pub is_cut_spec : {M : Type 1} → statement M
 is_cut_spec =

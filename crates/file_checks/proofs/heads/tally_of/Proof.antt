@@ -8,42 +8,42 @@ use Rattle.file_checks.proofs.TallyLaws.{Counting, count_none, count_on, count_e
 use Rattle.file_checks.proofs.heads.tally_of.Statement.{statement}
 use Rattle.file_checks.proofs.heads.tally_of.Tie as tie
 
-abbrev invariant_loop : tie.invariant_loop
+abbrev invariant_loop : tie.invariant-loop-at
 invariant_loop file t₀ at₀ t at = Counting file at t
 
-abbrev decreases_loop : tie.decreases_loop
+abbrev decreases_loop : tie.decreases-loop-at
 decreases_loop file t₀ at₀ t at = length file - at
 
-no-tally-requires : tie.Need-no-tally-requires invariant_loop decreases_loop
+no-tally-requires : tie.Need-no_tally-t-requires invariant_loop decreases_loop
 no-tally-requires c κs = tt
 
-loop-holds : tie.Need-loop-init invariant_loop decreases_loop
-loop-holds c = count_none c.before.before.args.file.now _ c.before.before.requires.1 c.no-tally.ensures
+loop-holds : tie.Need-loop-at-init invariant_loop decreases_loop
+loop-holds c = count_none c.args.file.now _ c.requires.1 c.no_tally-t.ensures
 
-place-behind-requires : tie.Need-place-behind-requires invariant_loop decreases_loop
+place-behind-requires : tie.Need-place_behind-next-requires invariant_loop decreases_loop
 place-behind-requires c κs = tt
 
-size-at-requires : tie.Need-size-at-requires invariant_loop decreases_loop
-size-at-requires c κs = omega (arith, room c.before.before.before.before.before.args.file.now c.before.before.loop.at c.before.loop-test.true c.before.before.loop.invariant.is_whole)
+size-at-requires : tie.Need-size_at-size-requires invariant_loop decreases_loop
+size-at-requires c κs = omega (arith, room c.args.file.now c.loop-at.at c.loop-at-test.true c.loop-at.invariant.is_whole)
 
-kind-at-requires : tie.Need-kind-at-requires invariant_loop decreases_loop
-kind-at-requires c κs = omega (arith, room c.before.before.before.before.before.before.args.file.now c.before.before.before.loop.at c.before.before.loop-test.true c.before.before.before.loop.invariant.is_whole)
+kind-at-requires : tie.Need-kind_at-kind-requires invariant_loop decreases_loop
+kind-at-requires c κs = omega (arith, room c.args.file.now c.loop-at.at c.loop-at-test.true c.loop-at.invariant.is_whole)
 
-counted-requires : tie.Need-counted-requires invariant_loop decreases_loop
+counted-requires : tie.Need-counted-t-requires invariant_loop decreases_loop
 counted-requires c κs =
-    let inv = c.before.before.before.before.loop.invariant in
-    let r = room c.before.before.before.before.before.before.before.args.file.now c.before.before.before.before.loop.at c.before.before.before.loop-test.true inv.is_whole in
-    let n = c.before.size-at.ensures in
+    let inv = c.loop-at.invariant in
+    let r = room c.args.file.now c.loop-at.at c.loop-at-test.true inv.is_whole in
+    let n = c.size_at-size.ensures in
     (omega arith, omega arith, omega arith)
 
-loop-less : tie.Need-loop-smaller invariant_loop decreases_loop
-loop-less c = omega (arith, c.before.before.before.place-behind.ensures, behind_is c.before.before.before.before.before.before.before.before.args.file.now c.before.before.before.before.before.loop.at c.before.before.before.before.loop-test.true c.before.before.before.before.before.loop.invariant.is_whole)
+loop-less : tie.Need-loop-at-smaller invariant_loop decreases_loop
+loop-less c = omega (arith, c.place_behind-next.ensures, behind_is c.args.file.now c.loop-at.at c.loop-at-test.true c.loop-at.invariant.is_whole)
 
-loop-again : tie.Need-loop-preserved invariant_loop decreases_loop
-loop-again c = count_on c.before.before.before.before.before.before.before.before.args.file.now c.before.before.before.before.before.loop.at c.before.before.before.before.before.loop.t _ _ _ c.before.before.before.before.before.loop.invariant c.before.before.before.before.loop-test.true c.before.kind_at.ensures c.before.before.size-at.ensures c.counted.ensures _ c.before.before.before.place-behind.ensures
+loop-again : tie.Need-loop-at-preserved invariant_loop decreases_loop
+loop-again c = count_on c.args.file.now c.loop-at.at c.loop-at.t _ _ _ c.loop-at.invariant c.loop-at-test.true c.kind_at-kind.ensures c.size_at-size.ensures c.counted-t.ensures _ c.place_behind-next.ensures
 
 returns : tie.Need-returns invariant_loop decreases_loop
-returns c = count_end c.before.before.before.before.args.file.now c.before.loop.at _ c.before.loop.invariant c.loop-test.false
+returns c = count_end c.args.file.now c.loop-at.at _ c.loop-at.invariant c.loop-at-test.false
 
 pub tally_of_spec : {M : Type 1} → statement M
 tally_of_spec =

@@ -5,21 +5,21 @@ use Rattle.drawing_spec.specs.Read.{settings_fit}
 use Rattle.file_checks.proofs.settings.settings_fit.Statement.{statement}
 use Rattle.file_checks.proofs.settings.settings_fit.Tie as tie
 
-returns : tie.Need-returns
+returns : tie.Need-returns-then-s-gt-MOST_SIDE
 unfolding settings_fit
-returns c = rw (lt-leb c.before.before.args.s.width most_side c.if1.true)
+returns c = rw (lt-leb c.args.s.width most_side c.if-s-gt-MOST_SIDE.true)
 
-returns-2 : tie.Need-returns-2
+returns-2 : tie.Need-returns-then-s-gt-MOST_SIDE-2
 unfolding settings_fit
-returns-2 c = rw (le-leb c.before.before.before.before.args.s.width most_side c.before.before.if1.false, lt-leb c.before.before.before.before.args.s.height most_side c.if2.true)
+returns-2 c = rw (le-leb c.args.s.width most_side c.if-s-gt-MOST_SIDE.false, lt-leb c.args.s.height most_side c.if-s-gt-MOST_SIDE-2.true)
 
-returns-3 : tie.Need-returns-3
+returns-3 : tie.Need-returns-then-s-gt-MOST_PAIRING
 unfolding settings_fit
-returns-3 c = rw (le-leb c.before.before.before.before.before.before.args.s.width most_side c.before.before.before.before.if1.false, le-leb c.before.before.before.before.before.before.args.s.height most_side c.before.before.if2.false, lt-leb c.before.before.before.before.before.before.args.s.pairing most_pairing c.if3.true)
+returns-3 c = rw (le-leb c.args.s.width most_side c.if-s-gt-MOST_SIDE.false, le-leb c.args.s.height most_side c.if-s-gt-MOST_SIDE-2.false, lt-leb c.args.s.pairing most_pairing c.if-s-gt-MOST_PAIRING.true)
 
-returns-4 : tie.Need-returns-4
+returns-4 : tie.Need-returns
 unfolding settings_fit
-returns-4 c = rw (le-leb c.before.before.before.before.before.before.before.args.s.width most_side c.before.before.before.before.before.if1.false, le-leb c.before.before.before.before.before.before.before.args.s.height most_side c.before.before.before.if2.false, le-leb c.before.before.before.before.before.before.before.args.s.pairing most_pairing c.before.if3.false)
+returns-4 c = rw (le-leb c.args.s.width most_side c.if-s-gt-MOST_SIDE.false, le-leb c.args.s.height most_side c.if-s-gt-MOST_SIDE-2.false, le-leb c.args.s.pairing most_pairing c.if-s-gt-MOST_PAIRING.false)
 
 pub settings_fit_spec : {M : Type 1} → statement M
 settings_fit_spec = tie.close (tie.spec returns returns-2 returns-3 returns-4)

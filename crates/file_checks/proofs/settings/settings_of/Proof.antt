@@ -6,41 +6,41 @@ use borrow.Author.Rules.{rules}
 use Rattle.file_checks.proofs.settings.settings_of.Statement.{statement}
 use Rattle.file_checks.proofs.settings.settings_of.Tie as tie
 
-record-at-requires : tie.Need-record-at-requires
+record-at-requires : tie.Need-record_at-found-requires
 record-at-requires c κs = search rules
 
-enum-known-body : tie.Need-enum-known-body
+enum-known-body : tie.Need-enum_known-body
 enum-known-body c = search rules
 
-enum_told : tie.Need-enum-told
+enum_told : tie.Need-enum_told-1
 enum_told c = search rules
 
-no-settings-requires : tie.Need-no-settings-requires
+no-settings-requires : tie.Need-no_settings-requires
 no-settings-requires c κs = search rules
 
-enum-told-2 : tie.Need-enum-told-2
+enum-told-2 : tie.Need-enum_told-in-Link
 enum-told-2 c = search rules
 
-no-settings-requires-2 : tie.Need-no-settings-requires-2
+no-settings-requires-2 : tie.Need-no_settings-requires-in-Link
 no-settings-requires-2 c κs = search rules
 
-enum-told-3 : tie.Need-enum-told-3
+enum-told-3 : tie.Need-enum_told-in-Other
 enum-told-3 c = search rules
 
-no-settings-requires-3 : tie.Need-no-settings-requires-3
+no-settings-requires-3 : tie.Need-no_settings-requires-in-Other
 no-settings-requires-3 c κs = search rules
 
-returns : tie.Need-returns
-returns c = ap settings_in (sym c.before.body.given.1 ∙ ap (λ (r : Record). r.body) c.before.before.before.record-at.ensures)
+returns : tie.Need-returns-in-Settings
+returns c = ap settings_in (sym c.in-Settings.is ∙ ap (λ (r : Record). r.body) c.record_at-found.ensures)
 
-returns-2 : tie.Need-returns-2
-returns-2 c = c.no-settings.ensures ∙ ap settings_in (sym c.before.enum_told.given.1 ∙ ap (λ (r : Record). r.body) c.before.before.before.record-at.ensures)
+returns-2 : tie.Need-returns-in-Line
+returns-2 c = c.no_settings.ensures ∙ ap settings_in (sym c.in-Line.is ∙ ap (λ (r : Record). r.body) c.record_at-found.ensures)
 
-returns-3 : tie.Need-returns-3
-returns-3 c = c.no-settings2.ensures ∙ ap settings_in (sym c.before.enum-told2.given.1 ∙ ap (λ (r : Record). r.body) c.before.before.before.record-at.ensures)
+returns-3 : tie.Need-returns-in-Link
+returns-3 c = c.no_settings-in-Link.ensures ∙ ap settings_in (sym c.in-Link.is ∙ ap (λ (r : Record). r.body) c.record_at-found.ensures)
 
-returns-4 : tie.Need-returns-4
-returns-4 c = c.no-settings3.ensures ∙ ap settings_in (sym c.before.enum-told3.given.1 ∙ ap (λ (r : Record). r.body) c.before.before.before.record-at.ensures)
+returns-4 : tie.Need-returns-in-Other
+returns-4 c = c.no_settings-in-Other.ensures ∙ ap settings_in (sym c.in-Other.is ∙ ap (λ (r : Record). r.body) c.record_at-found.ensures)
 
 pub settings_of_spec : {M : Type 1} → statement M
 settings_of_spec =

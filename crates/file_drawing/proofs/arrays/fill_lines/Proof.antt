@@ -6,53 +6,53 @@ use Rattle.file_drawing.proofs.LinesLaws.{Filling, fill_start, fill_on, fill_end
 use Rattle.file_drawing.proofs.arrays.fill_lines.Statement.{statement}
 use Rattle.file_drawing.proofs.arrays.fill_lines.Tie as tie
 
-abbrev invariant_loop : tie.invariant_loop
+abbrev invariant_loop : tie.invariant-loop-line
 invariant_loop file start count starts₀ xs₀ ys₀ at₀ line₀ filled₀ starts xs ys at line filled = Filling file start count (arrays starts₀ xs₀ ys₀) at line filled starts xs ys
 
-abbrev decreases_loop : tie.decreases_loop
+abbrev decreases_loop : tie.decreases-loop-line
 decreases_loop file start count starts₀ xs₀ ys₀ at₀ line₀ filled₀ starts xs ys at line filled = count - line
 
-loop-holds : tie.Need-loop-init invariant_loop decreases_loop
-loop-holds c = fill_start c.before.args.file.now c.before.args.start c.before.args.count (arrays c.before.args.starts.now c.before.args.xs.now c.before.args.ys.now) c.before.requires
+loop-holds : tie.Need-loop-line-init invariant_loop decreases_loop
+loop-holds c = fill_start c.args.file.now c.args.start c.args.count (arrays c.args.starts.now c.args.xs.now c.args.ys.now) c.requires
 
-record-at-requires : tie.Need-record-at-requires invariant_loop decreases_loop
+record-at-requires : tie.Need-record_at-found-requires invariant_loop decreases_loop
 record-at-requires c κs = tt
 
-points-of-requires : tie.Need-points-of-requires invariant_loop decreases_loop
+points-of-requires : tie.Need-points_of-points-requires invariant_loop decreases_loop
 points-of-requires c κs = tt
 
-body-of-requires : tie.Need-body-of-requires invariant_loop decreases_loop
+body-of-requires : tie.Need-body_of-part-requires invariant_loop decreases_loop
 body-of-requires c κs = tt
 
-place-behind-requires : tie.Need-place-behind-requires invariant_loop decreases_loop
+place-behind-requires : tie.Need-place_behind-next-requires invariant_loop decreases_loop
 place-behind-requires c κs = tt
 
-fill-points-requires : tie.Need-fill-points-requires invariant_loop decreases_loop
-fill-points-requires c κs = (within c.before.before.before.before.before.before.before.before.before.args.file.now c.before.before.before.before.before.before.before.before.before.args.start c.before.before.before.before.before.before.before.before.before.args.count (arrays c.before.before.before.before.before.before.before.before.before.args.starts.now c.before.before.before.before.before.before.before.before.before.args.xs.now c.before.before.before.before.before.before.before.before.before.args.ys.now) c.before.before.before.before.before.before.before.loop.at c.before.before.before.before.before.before.before.loop.line c.before.before.before.before.before.before.before.loop.filled c.before.before.before.before.before.before.before.loop.starts c.before.before.before.before.before.before.before.loop.xs c.before.before.before.before.before.before.before.loop.ys c.before.before.before.before.before.before.before.loop.invariant c.before.before.before.before.before.before.loop-test.true c.before.before.before.before.before.record-at.result c.before.before.before.before.before.record-at.ensures c.before.before.before.before.points-of.result c.before.before.before.before.points-of.ensures _ c.before.before.before.body_of.ensures, has_room c.before.before.before.before.before.before.before.before.before.args.file.now c.before.before.before.before.before.before.before.before.before.args.start c.before.before.before.before.before.before.before.before.before.args.count (arrays c.before.before.before.before.before.before.before.before.before.args.starts.now c.before.before.before.before.before.before.before.before.before.args.xs.now c.before.before.before.before.before.before.before.before.before.args.ys.now) c.before.before.before.before.before.before.before.loop.at c.before.before.before.before.before.before.before.loop.line c.before.before.before.before.before.before.before.loop.filled c.before.before.before.before.before.before.before.loop.starts c.before.before.before.before.before.before.before.loop.xs c.before.before.before.before.before.before.before.loop.ys c.before.before.before.before.before.before.before.loop.invariant c.before.before.before.before.before.before.loop-test.true c.before.before.before.before.before.record-at.result c.before.before.before.before.before.record-at.ensures c.before.before.before.before.points-of.result c.before.before.before.before.points-of.ensures _ c.before.before.before.body_of.ensures)
+fill-points-requires : tie.Need-fill_points-requires invariant_loop decreases_loop
+fill-points-requires c κs = (within c.args.file.now c.args.start c.args.count (arrays c.args.starts.now c.args.xs.now c.args.ys.now) c.loop-line.at c.loop-line.line c.loop-line.filled c.loop-line.starts c.loop-line.xs c.loop-line.ys c.loop-line.invariant c.loop-line-test.true c.record_at-found.result c.record_at-found.ensures c.points_of-points.result c.points_of-points.ensures _ c.body_of-part.ensures, has_room c.args.file.now c.args.start c.args.count (arrays c.args.starts.now c.args.xs.now c.args.ys.now) c.loop-line.at c.loop-line.line c.loop-line.filled c.loop-line.starts c.loop-line.xs c.loop-line.ys c.loop-line.invariant c.loop-line-test.true c.record_at-found.result c.record_at-found.ensures c.points_of-points.result c.points_of-points.ensures _ c.body_of-part.ensures)
 
-add-filled : tie.Need-overflow-add-filled invariant_loop decreases_loop
-add-filled c = omega (arith, has_room c.before.before.before.before.before.before.before.before.before.before.args.file.now c.before.before.before.before.before.before.before.before.before.before.args.start c.before.before.before.before.before.before.before.before.before.before.args.count (arrays c.before.before.before.before.before.before.before.before.before.before.args.starts.now c.before.before.before.before.before.before.before.before.before.before.args.xs.now c.before.before.before.before.before.before.before.before.before.before.args.ys.now) c.before.before.before.before.before.before.before.before.loop.at c.before.before.before.before.before.before.before.before.loop.line c.before.before.before.before.before.before.before.before.loop.filled c.before.before.before.before.before.before.before.before.loop.starts c.before.before.before.before.before.before.before.before.loop.xs c.before.before.before.before.before.before.before.before.loop.ys c.before.before.before.before.before.before.before.before.loop.invariant c.before.before.before.before.before.before.before.loop-test.true c.before.before.before.before.before.before.record-at.result c.before.before.before.before.before.before.record-at.ensures c.before.before.before.before.before.points-of.result c.before.before.before.before.before.points-of.ensures _ c.before.before.before.before.body_of.ensures)
+add-filled : tie.Need-overflow_add-filled invariant_loop decreases_loop
+add-filled c = omega (arith, has_room c.args.file.now c.args.start c.args.count (arrays c.args.starts.now c.args.xs.now c.args.ys.now) c.loop-line.at c.loop-line.line c.loop-line.filled c.loop-line.starts c.loop-line.xs c.loop-line.ys c.loop-line.invariant c.loop-line-test.true c.record_at-found.result c.record_at-found.ensures c.points_of-points.result c.points_of-points.ensures _ c.body_of-part.ensures)
 
-add-line : tie.Need-overflow-add-line invariant_loop decreases_loop
+add-line : tie.Need-overflow_add-line invariant_loop decreases_loop
 add-line c = omega arith
 
-cast-starts : tie.Need-overflow-cast-starts invariant_loop decreases_loop
-cast-starts c = omega (arith, has_room c.before.before.before.before.before.before.before.before.before.before.args.file.now c.before.before.before.before.before.before.before.before.before.before.args.start c.before.before.before.before.before.before.before.before.before.before.args.count (arrays c.before.before.before.before.before.before.before.before.before.before.args.starts.now c.before.before.before.before.before.before.before.before.before.before.args.xs.now c.before.before.before.before.before.before.before.before.before.before.args.ys.now) c.before.before.before.before.before.before.before.before.loop.at c.before.before.before.before.before.before.before.before.loop.line c.before.before.before.before.before.before.before.before.loop.filled c.before.before.before.before.before.before.before.before.loop.starts c.before.before.before.before.before.before.before.before.loop.xs c.before.before.before.before.before.before.before.before.loop.ys c.before.before.before.before.before.before.before.before.loop.invariant c.before.before.before.before.before.before.before.loop-test.true c.before.before.before.before.before.before.record-at.result c.before.before.before.before.before.before.record-at.ensures c.before.before.before.before.before.points-of.result c.before.before.before.before.before.points-of.ensures _ c.before.before.before.before.body_of.ensures)
+cast-starts : tie.Need-overflow_cast-starts invariant_loop decreases_loop
+cast-starts c = omega (arith, has_room c.args.file.now c.args.start c.args.count (arrays c.args.starts.now c.args.xs.now c.args.ys.now) c.loop-line.at c.loop-line.line c.loop-line.filled c.loop-line.starts c.loop-line.xs c.loop-line.ys c.loop-line.invariant c.loop-line-test.true c.record_at-found.result c.record_at-found.ensures c.points_of-points.result c.points_of-points.ensures _ c.body_of-part.ensures)
 
-mul-starts : tie.Need-overflow-mul-starts invariant_loop decreases_loop
-mul-starts c = omega (arith, c.before.before.before.before.before.before.before.before.before.before.requires.few_lines)
+mul-starts : tie.Need-offset_bounds-starts-line invariant_loop decreases_loop
+mul-starts c = omega (arith, c.requires.few_lines)
 
-element-write-starts : tie.Need-element-write-starts invariant_loop decreases_loop
-element-write-starts c = omega (arith, c.before.before.before.before.before.before.before.before.before.before.requires.few_lines)
+element-write-starts : tie.Need-bounds-starts-line invariant_loop decreases_loop
+element-write-starts c = omega (arith, c.requires.few_lines)
 
-loop-less : tie.Need-loop-smaller invariant_loop decreases_loop
+loop-less : tie.Need-loop-line-smaller invariant_loop decreases_loop
 loop-less c = omega arith
 
-loop-again : tie.Need-loop-preserved invariant_loop decreases_loop
-loop-again c = fill_on c.before.before.before.before.before.before.before.before.before.before.args.file.now c.before.before.before.before.before.before.before.before.before.before.args.start c.before.before.before.before.before.before.before.before.before.before.args.count (arrays c.before.before.before.before.before.before.before.before.before.before.args.starts.now c.before.before.before.before.before.before.before.before.before.before.args.xs.now c.before.before.before.before.before.before.before.before.before.before.args.ys.now) c.before.before.before.before.before.before.before.before.loop.at c.before.before.before.before.before.before.before.before.loop.line c.before.before.before.before.before.before.before.before.loop.filled c.before.before.before.before.before.before.before.before.loop.starts c.before.before.before.before.before.before.before.before.loop.xs c.before.before.before.before.before.before.before.before.loop.ys c.before.before.before.before.before.before.before.before.loop.invariant c.before.before.before.before.before.before.before.loop-test.true c.before.before.before.before.before.before.record-at.result c.before.before.before.before.before.before.record-at.ensures c.before.before.before.before.before.points-of.result c.before.before.before.before.before.points-of.ensures _ c.before.before.before.before.body_of.ensures _ _ c.fill-points.ensures.0 c.fill-points.ensures.1 _ c.before.before.before.place-behind.ensures
+loop-again : tie.Need-loop-line-preserved invariant_loop decreases_loop
+loop-again c = fill_on c.args.file.now c.args.start c.args.count (arrays c.args.starts.now c.args.xs.now c.args.ys.now) c.loop-line.at c.loop-line.line c.loop-line.filled c.loop-line.starts c.loop-line.xs c.loop-line.ys c.loop-line.invariant c.loop-line-test.true c.record_at-found.result c.record_at-found.ensures c.points_of-points.result c.points_of-points.ensures _ c.body_of-part.ensures _ _ c.fill_points.ensures.0 c.fill_points.ensures.1 _ c.place_behind-next.ensures
 
 returns : tie.Need-returns invariant_loop decreases_loop
-returns c = fill_end c.before.before.before.args.file.now c.before.before.before.args.start c.before.before.before.args.count (arrays c.before.before.before.args.starts.now c.before.before.before.args.xs.now c.before.before.before.args.ys.now) c.before.loop.at c.before.loop.line c.before.loop.filled c.before.loop.starts c.before.loop.xs c.before.loop.ys c.before.loop.invariant c.loop-test.false
+returns c = fill_end c.args.file.now c.args.start c.args.count (arrays c.args.starts.now c.args.xs.now c.args.ys.now) c.loop-line.at c.loop-line.line c.loop-line.filled c.loop-line.starts c.loop-line.xs c.loop-line.ys c.loop-line.invariant c.loop-line-test.false
 
 pub fill_lines_spec : {M : Type 1} → statement M
 fill_lines_spec =

@@ -4,35 +4,35 @@ use borrow.Author.Rules.{rules}
 use Rattle.file_drawing.proofs.links.end_fits.Statement.{statement}
 use Rattle.file_drawing.proofs.links.end_fits.Tie as tie
 
-returns : tie.Need-returns
-returns c = no_line c.before.args.starts.now c.before.args.lines c.before.args.line c.before.args.segment c.if1.true
+returns : tie.Need-returns-then-lines-i
+returns c = no_line c.args.starts.now c.args.lines c.args.line c.args.segment c.if-lines-i.true
 
-mul-first : tie.Need-overflow-mul-first
+mul-first : tie.Need-offset_bounds-starts-i
 mul-first c = search rules
 
-element-copy-out-first : tie.Need-element-copy-out-first
+element-copy-out-first : tie.Need-bounds-starts-i
 element-copy-out-first c = search rules
 
-add-last : tie.Need-overflow-add-last
+add-last : tie.Need-overflow_add-last
 add-last c = search rules
 
-mul-last : tie.Need-overflow-mul-last
+mul-last : tie.Need-offset_bounds-starts-i-2
 mul-last c = search rules
 
-element-copy-out-last : tie.Need-element-copy-out-last
+element-copy-out-last : tie.Need-bounds-starts-i-2
 element-copy-out-last c = search rules
 
-returns-2 : tie.Need-returns-2
-returns-2 c = empty_line c.before.before.before.before.args.starts.now c.before.before.before.before.args.lines c.before.before.before.before.args.line c.before.before.before.before.args.segment c.before.before.before.if1.false c.if2.true
+returns-2 : tie.Need-returns-then-last-first
+returns-2 c = empty_line c.args.starts.now c.args.lines c.args.line c.args.segment c.if-lines-i.false c.if-last-first.true
 
-sub-most-segment : tie.Need-overflow-sub-most-segment
+sub-most-segment : tie.Need-overflow_sub-last
 sub-most-segment c = search rules
 
-most-segment-requires : tie.Need-most-segment-requires
+most-segment-requires : tie.Need-most_segment-most-requires
 most-segment-requires c κs = search rules
 
-returns-3 : tie.Need-returns-3
-returns-3 c = some_points c.before.before.before.before.before.args.starts.now c.before.before.before.before.before.args.lines c.before.before.before.before.before.args.line c.before.before.before.before.before.args.segment _ c.before.before.before.before.if1.false c.before.if2.false c.most-segment.ensures
+returns-3 : tie.Need-returns
+returns-3 c = some_points c.args.starts.now c.args.lines c.args.line c.args.segment _ c.if-lines-i.false c.if-last-first.false c.most_segment-most.ensures
 
 pub end_fits_spec : {M : Type 1} → statement M
 end_fits_spec =

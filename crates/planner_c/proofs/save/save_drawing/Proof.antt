@@ -7,43 +7,41 @@ use borrow.Author.Rules.{rules}
 use Rattle.planner_c.proofs.save.save_drawing.Statement.{statement}
 use Rattle.planner_c.proofs.save.save_drawing.Tie as tie
 
-save-requires : tie.Need-save-requires
+save-requires : tie.Need-save-answer-requires
 save-requires c κs = search rules
 
-enum-known-answer : tie.Need-enum-known-answer
+enum-known-answer : tie.Need-enum_known-answer
 enum-known-answer c = search rules
 
-cast-t17 : tie.Need-overflow-cast-t17
+cast-t17 : tie.Need-overflow_cast-result
 cast-t17 c = search rules
 
-enum-known-answer-2 : tie.Need-enum-known-answer-2
+enum-known-answer-2 : tie.Need-enum_known-answer-in-Written-1
 enum-known-answer-2 c = search rules
 
-same_length : tie.Need-same-length
+same_length : tie.Need-shape_of-destination-in-Refused
 same_length c = search rules
 
-returns : tie.Need-returns
+returns : tie.Need-returns-in-Refused
 returns c =
-    let a = c.before.before.before.before.before.before.before.before.before.before.before.before.args in
+    let a = c.args in
     let g : Given = given (settings_given a.width a.height a.pairing a.flags) a.sizes.now a.coordinates.now a.segments.now a.ends.now in
-    let called = c.before.before.before.before.before.save in
-    let is = called.ensures.0 in
-    let one = called.ensures.1 in
-    let which = sym c.before.answer.given.1 in
-    (refused_saved g a.destination.now _ called.result is one _ which, (destination_is g a.destination.now _ called.result is one, refused_no_file g a.destination.now _ called.result is one _ which))
+    let is = c.save-answer.ensures.0 in
+    let one = c.save-answer.ensures.1 in
+    let which = sym c.in-Refused.is in
+    (refused_saved g a.destination.now _ c.save-answer.result is one _ which, (destination_is g a.destination.now _ c.save-answer.result is one, refused_no_file g a.destination.now _ c.save-answer.result is one _ which))
 
-same-length-2 : tie.Need-same-length-2
+same-length-2 : tie.Need-shape_of-destination-in-Written
 same-length-2 c = search rules
 
-returns-2 : tie.Need-returns-2
+returns-2 : tie.Need-returns-in-Written
 returns-2 c =
-    let a = c.before.before.before.before.before.before.before.before.before.before.before.before.args in
+    let a = c.args in
     let g : Given = given (settings_given a.width a.height a.pairing a.flags) a.sizes.now a.coordinates.now a.segments.now a.ends.now in
-    let called = c.before.before.before.before.before.save in
-    let is = called.ensures.0 in
-    let one = called.ensures.1 in
-    let which = sym c.before.answer2.given.1 in
-    (written_saved g a.destination.now _ called.result is one _ which, (destination_is g a.destination.now _ called.result is one, λ z. written_one g a.destination.now _ called.result is one _ which))
+    let is = c.save-answer.ensures.0 in
+    let one = c.save-answer.ensures.1 in
+    let which = sym c.in-Written.is in
+    (written_saved g a.destination.now _ c.save-answer.result is one _ which, (destination_is g a.destination.now _ c.save-answer.result is one, λ z. written_one g a.destination.now _ c.save-answer.result is one _ which))
 
 pub save_drawing_spec : {M : Type 1} → statement M
 save_drawing_spec =
