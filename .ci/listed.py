@@ -5,9 +5,9 @@ import sys
 
 listed = set()
 for line in open("crates.txt", encoding="utf-8"):
-    name = line.split("#")[0].split(":")[0].strip()
-    if name:
-        listed.add(name)
+    head = line.split("#")[0].split(":")[0].split()  # a name, and behind it what kind of crate it is
+    if head:
+        listed.add(head[0])
 found = {d for d in os.listdir("crates") if os.path.isdir(os.path.join("crates", d))}
 
 wrong = [f"crates/{d} is not in crates.txt" for d in sorted(found - listed)]

@@ -1,6 +1,6 @@
 /* Plans a drawing file and prints what the program `plan` prints; makes, saves and plans a drawing; saves numbers.
  *
- *     cc -O2 bindings/example.c -I bindings target/staticlib/libplanner_c.a -o example
+ *     cc -O2 bindings/example.c -I bindings crates/planner_c/out/libplanner_c.a -o example
  *     ./example DRAWING                          with what `plan` lends
  *     ./example DRAWING FLOATS BYTES OUTPUT      with tables and an output of these lengths
  *     ./example --build DRAWING                  makes a drawing as an editor does, saves it there, and plans the file

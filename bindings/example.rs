@@ -1,7 +1,7 @@
 //! Plans a drawing file and prints what the program `plan` prints; makes, saves and plans a drawing; saves numbers.
 //!
 //! ```text
-//! rustc -O --edition 2021 bindings/example.rs -L target/staticlib -l static=planner_c -o example
+//! rustc -O --edition 2021 bindings/example.rs -L crates/planner_c/out -l static=planner_c -o example
 //! ./example DRAWING                          with what `plan` lends
 //! ./example DRAWING FLOATS BYTES OUTPUT      with tables and an output of these lengths
 //! ./example --build DRAWING                  makes a drawing as an editor does, saves it there, and plans the file

@@ -1,8 +1,8 @@
 /* The planner for C and C++: it plans drawing files, and writes them.
  *
- * The archive is made by `rt staticlib planner_c` (target/staticlib/libplanner_c.a, for x86-64 Linux):
+ * The archive is made by `rt lib` in crates/planner_c (crates/planner_c/out/libplanner_c.a, for x86-64 Linux):
  *
- *     cc program.c -I bindings target/staticlib/libplanner_c.a
+ *     cc program.c -I bindings crates/planner_c/out/libplanner_c.a
  *
  * bindings/example.c is such a program. docs/DRAWING-FILE.md has the drawing file and what each refusal means. The archive
  * takes two names that a program might have given to something else: `plan` and `save_drawing`. All other names begin with

@@ -1,10 +1,10 @@
 //! The planner for Rust: slices in, a `Result` out, no crates. It plans drawing files, and writes them.
 //!
-//! The archive is made by `rt staticlib planner_c` (target/staticlib/libplanner_c.a, for x86-64 Linux). Take this file
-//! in as a module (`mod planner;`) and link the archive:
+//! The archive is made by `rt lib` in crates/planner_c (crates/planner_c/out/libplanner_c.a, for x86-64 Linux). Take this
+//! file in as a module (`mod planner;`) and link the archive:
 //!
 //! ```text
-//! rustc -O --edition 2021 program.rs -L target/staticlib -l static=planner_c
+//! rustc -O --edition 2021 program.rs -L crates/planner_c/out -l static=planner_c
 //! ```
 //!
 //! With cargo, two lines of build.rs say it, with the folder that the archive is in:

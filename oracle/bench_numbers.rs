@@ -1,7 +1,7 @@
 //! Times the port's numbers against Rust's, from one driver on the same inputs.
 //!
-//!     rt staticlib numbers_c
-//!     rustc -O --edition 2021 oracle/bench_numbers.rs -L target/staticlib -l static=numbers_c -o OUT
+//!     (cd crates/numbers_c && rt lib)
+//!     rustc -O --edition 2021 oracle/bench_numbers.rs -L crates/numbers_c/out -l static=numbers_c -o OUT
 //!     OUT
 //!
 //! Every answer is compared as well. The time is that of a loop over one million inputs that stand in a

@@ -1,7 +1,7 @@
 //! Times the proved reader and the harness's reader on the same files, in one program.
 //!
-//! Build, from the repository's folder, after `rt staticlib file_c`:
-//!   rustc -O --edition 2024 oracle/bench_reader.rs -L target/staticlib -l static=file_c -o bench_reader
+//! Build, from the repository's folder, after `rt lib` in crates/file_c:
+//!   rustc -O --edition 2024 oracle/bench_reader.rs -L crates/file_c/out -l static=file_c -o bench_reader
 //! Both answers are compared on every file before anything is timed.
 #[allow(dead_code)]
 mod reader;

@@ -11,7 +11,7 @@ run in one process on the same drawings; a time is the least of nine rounds in w
 of a call. The port also writes the record of the line, which the published functions leave to their caller.
 `saved` times the writer: beside writer.rs, and beside the port's reader on the same file if ORACLE was built with --reader.
 
-PLAN is target/bin/plan, RUST an oracle built with --petgraph alone: each reads a drawing on standard input and prints
+PLAN is crates/plan/out/plan, RUST an oracle built with --petgraph alone: each reads a drawing on standard input and prints
 its answer, here to /dev/null. A time is that of a whole run, from the start of the process to its end: the least of fifteen
 rounds, each the mean of several runs, in which the two take turns.
 """

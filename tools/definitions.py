@@ -5,14 +5,14 @@ usage: tools/definitions.py ANSWERS OUT [--each N] [--most BYTES]
        tools/definitions.py --saved LIST OUT [--each N]
 
 ANSWERS is a list of drawings and answers in the format of oracle/answers.txt. OUT is a folder outside the
-repository, for a scratch repository of the definitions and one crate more: `rt check` there proves, a theorem for each
-drawing and N theorems to a file, that the definition `plan` gives its answer for just what the case says is lent: whole,
-with every byte of the output. Some cases take more steps than the checker allows, or too long; they are counted and
+repository, for a scratch repository of the definitions and one crate more, `computed`: `rt check` in OUT/crates/computed proves,
+a theorem for each drawing and N theorems to a file, that the definition `plan` gives its answer for just what the case says is
+lent: whole, with every byte of the output. Some cases take more steps than the checker allows, or too long; they are counted and
 named, and left to the program that replays the list with the planner's code:
 - files of more than BYTES bytes that pass checks 1 to 8 and 15,
 - Optimal with 10 to 20 odd nodes, since the definition tries every pairing; above 20 it takes the checker some 13 seconds a drawing.
 
-With --saved, LIST is one in the format of oracle/saved.txt, and the theorems say that `saveGiven` gives the answer, and the
+With --saved, LIST is one in the format of oracle/saved.txt, and the theorems say that `save_given` gives the answer, and the
 destination afterwards with every byte, for just what is handed over. Left to the replay are drawings of which the list has only
 a digest of the file, and those with more than 2,000 numbers.
 """
@@ -87,9 +87,9 @@ def scratch(out, definitions):
     """A repository with a crate of definitions and what it uses, and an empty crate `computed` over it."""
     uses = {}
     for line in open("crates.txt", encoding="utf-8"):
-        name, _, deps = line.split("#")[0].partition(":")
-        if name.strip():
-            uses[name.strip()] = deps.split()
+        head, _, deps = line.split("#")[0].partition(":")
+        if head.strip():
+            uses[head.split()[0]] = deps.split()
     wanted, todo = set(), [definitions]
     while todo:
         name = todo.pop()
@@ -98,12 +98,12 @@ def scratch(out, definitions):
             todo += uses[name]
     shutil.rmtree(os.path.join(out, "crates"), ignore_errors=True)
     for name in wanted:
-        shutil.copytree(os.path.join("crates", name), os.path.join(out, "crates", name))
+        shutil.copytree(os.path.join("crates", name), os.path.join(out, "crates", name), ignore=shutil.ignore_patterns("out"))
     crate = os.path.join(out, "crates", "computed")
     os.makedirs(os.path.join(crate, "src"))
     os.makedirs(os.path.join(crate, "specs"))
     with open(os.path.join(crate, "src", "lib.rt"), "w", encoding="utf-8") as f:
-        f.write("// Definitions only.\n")
+        f.write("// Definitions only.\n#![tactic(auto)]\n")
     with open(os.path.join(out, "crates.txt"), "w", encoding="utf-8") as f:
         for name in sorted(wanted):
             f.write(f"{name}: {' '.join(uses[name])}\n")
@@ -128,7 +128,7 @@ def is_saved(case):
     else:
         later = f"replicate {case.destination - case.bytes} {BEFORE}"
         after = f"record {{ answer = written {case.bytes}; destination = {numbers(case.file, later)} }}"
-    return f"saveGiven (given ({settings}) {lists}) (replicate {case.destination} {BEFORE})", after, "saveGiven"
+    return f"save_given (given ({settings}) {lists}) (replicate {case.destination} {BEFORE})", after, "save_given"
 
 
 def too_much(case):
@@ -187,19 +187,19 @@ def main():
 
 
 HEAD = """use Prim.Native.Nat.{ℕ}
-use mathlib.Core.Path.{_≡_, refl}
-use mathlib.Core.List.{List, [], _∷_}
+use mathlib.Core.Path.{◌≡◌, refl}
+use mathlib.Core.List.{List, [], ◌∷◌}
 use lib.ListN.{replicate}
-use Rattle·planner_spec.specs.Plan.{Lent, Planned, Answer, refusal, planned, Outcome, plan}
+use Rattle.planner_spec.specs.Plan.{Lent, Planned, Answer, refusal, planned, Outcome, plan}
 
 """
 
 HEAD_SAVED = """use Prim.Native.Nat.{ℕ}
-use mathlib.Core.Path.{_≡_, refl}
-use mathlib.Core.List.{List, [], _∷_}
+use mathlib.Core.Path.{◌≡◌, refl}
+use mathlib.Core.List.{List, [], ◌∷◌}
 use lib.ListN.{replicate}
-use Rattle·writer_spec.specs.Save.{Answer, refusal, written, Saved}
-use Rattle·writer_spec.specs.Given.{given, saveGiven}
+use Rattle.writer_spec.specs.Save.{Answer, refusal, written, Saved}
+use Rattle.writer_spec.specs.Given.{given, save_given}
 
 """
 

@@ -15,8 +15,8 @@ Answer = collections.namedtuple("Answer", "refusal retrace before after points")
 
 
 def program(given=None, name="plan"):
-    """The path of `plan`: what was given, or PLAN in the environment, or where `rt check plan` puts it. So for `save`."""
-    return given or os.environ.get(name.upper()) or os.path.join(ROOT, "target", "bin", name)
+    """The path of `plan`: what was given, or PLAN in the environment, or where `rt run` puts it. So for `save`."""
+    return given or os.environ.get(name.upper()) or os.path.join(ROOT, "crates", name, "out", name)
 
 
 def parsed(text):
@@ -38,7 +38,7 @@ class Wrong(Exception):
 def printed(file, path):
     """What the program `plan` at this path prints for a drawing file."""
     if not os.access(path, os.X_OK):
-        raise Wrong(f"{path} is not built: `rt check plan` builds it")
+        raise Wrong(f"{path} is not built: `rt run` in crates/plan builds it")
     run = subprocess.run([path], input=file, stdout=subprocess.PIPE, check=True)
     return run.stdout.decode("ascii")
 
@@ -46,7 +46,7 @@ def printed(file, path):
 def saved(file, path):
     """What the program `save` at this path makes of a drawing file: the number that it is refused with, or 0, and the file saved."""
     if not os.access(path, os.X_OK):
-        raise Wrong(f"{path} is not built: `rt check save` builds it")
+        raise Wrong(f"{path} is not built: `rt run` in crates/save builds it")
     run = subprocess.run([path], input=file, stdout=subprocess.PIPE, stderr=subprocess.PIPE, check=True)
     refused = re.fullmatch(rb"refused ([1-9][0-9]?)\n", run.stderr)
     number = int(refused[1]) if refused else 0

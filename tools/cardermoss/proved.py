@@ -12,18 +12,24 @@ CALLED = os.path.join(os.path.dirname(sys.argv[0]), "")  # so that a command tha
 
 
 def newest_source():
-    """When the sources were last changed. A folder changes when a file of it goes."""
+    """When the sources were last changed. A folder changes when a file of it goes; that of a crate changes with its out/ too, which is
+    no source, so neither is asked."""
+    crates = os.path.join(planner.ROOT, "crates")
     paths = [os.path.join(planner.ROOT, "crates.txt")]
-    for folder, _, names in os.walk(os.path.join(planner.ROOT, "crates")):
-        paths += [folder, *(os.path.join(folder, name) for name in names)]
+    for folder, folders, names in os.walk(crates):
+        if os.path.dirname(folder) == crates:
+            folders[:] = [inside for inside in folders if inside != "out"]
+        else:
+            paths.append(folder)
+        paths += [os.path.join(folder, name) for name in names]
     return max(os.lstat(path).st_mtime_ns for path in paths)
 
 
 class Program:
-    """The program `name` (what is said of it: `called`, the time that proving takes: `first` and `again`), for the command tools/NAME."""
+    """The program `name` (what is said of it: `called`), for the command tools/NAME."""
 
-    def __init__(self, name, called, first, again):
-        self.name, self.called, self.first, self.again = name, called, first, again
+    def __init__(self, name, called):
+        self.name, self.called = name, called
 
     def say(self, words):
         print(f"tools/{self.name}: {words}", file=sys.stderr, flush=True)
@@ -32,7 +38,7 @@ class Program:
         parser.add_argument(f"--{self.name}", metavar="PATH", help=f"the program `{self.name}`, which is then not built")
 
     def path(self, given=None):
-        """What was given, or the variable of its name in the environment, or where `rt check` puts it."""
+        """What was given, or the variable of its name in the environment, or where `rt run` puts it."""
         return planner.program(given, self.name)
 
     def built(self, given):
@@ -45,19 +51,21 @@ class Program:
         there = os.access(path, os.X_OK)
         if there and os.stat(path).st_mtime_ns >= newest:
             return path
-        command = f"rt check {self.name}"
-        self.say(f"crates/ has changed since {self.called} was built; `{command}` proves again what changed, {self.again}" if there
-                 else f"{self.called} is not built yet; `{command}` proves and builds it, {self.first}, this once")
+        command, folder = f"`rt run` in crates/{self.name}", os.path.join(planner.ROOT, "crates", self.name)
+        self.say(f"crates/ has changed since {self.called} was built; {command} proves again what changed, in up to the time of the first run"
+                 if there else f"{self.called} is not built yet; {command} proves and builds it with all below it, many minutes, this once")
         began = time.monotonic()
         try:
-            status = subprocess.run(command.split(), cwd=planner.ROOT, stdin=subprocess.DEVNULL, stdout=2).returncode
+            # it runs the program too, on what its crate has for that, and only what the program prints goes to standard output
+            with open(os.path.join(folder, "stdin"), "rb") as source:
+                status = subprocess.run(["rt", "run"], cwd=folder, stdin=source, stdout=subprocess.DEVNULL).returncode
         except OSError as wrong:
             raise planner.Wrong(f"`rt`, the Rattle toolchain, can't be run: {wrong.strerror}") from None
         took = f"after {time.monotonic() - began:.0f} s"
         if status != 0:
-            raise planner.Wrong(f"`{command}` failed {took}; its last lines say why")
+            raise planner.Wrong(f"{command} failed {took}; its last lines say why")
         if not os.access(path, os.X_OK):
-            raise planner.Wrong(f"`{command}` ended {took}, and there is no {path}")
+            raise planner.Wrong(f"{command} ended {took}, and there is no {path}")
         os.utime(path, ns=(newest, newest))
         self.say(f"{self.called} is ready {took}")
         return path
