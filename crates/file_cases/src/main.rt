@@ -281,7 +281,7 @@ fn count_wrong(data: &[u8], cases: u64) -> u64 {
 
 fn main(rt: HostRuntime) -> io::Result<()> {
     let mut buf = [0u8; 131072];
-    let n = test_data::load(&rt, "cases", &mut buf);
+    let n = test_data::load(&rt, b"cases", &mut buf);
     let data = &buf[..n];
     let cases = number(data, 0, 0, 2);
     test_data::report(&rt, b"reader", cases, b"files", count_wrong(data, cases))

@@ -69,7 +69,7 @@ fn count_wrong(s: &[u8]) -> u64 {
 
 fn main(rt: HostRuntime) -> io::Result<()> {
     let mut buf = [0u8; 262144];
-    let n = test_data::load(&rt, "vectors", &mut buf);
+    let n = test_data::load(&rt, b"vectors", &mut buf);
     test_data::report(
         &rt,
         b"grid",

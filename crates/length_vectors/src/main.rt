@@ -34,7 +34,7 @@ fn misses(s: &[u8]) -> u64 {
 
 fn main(rt: HostRuntime) -> io::Result<()> {
     let mut buf = [0u8; 131072];
-    let n = test_data::load(&rt, "vectors", &mut buf);
+    let n = test_data::load(&rt, b"vectors", &mut buf);
     test_data::report(
         &rt,
         b"length",

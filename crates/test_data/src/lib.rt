@@ -6,22 +6,34 @@ ghost use Rattle.std.specs.Prelude.{◌<◌};
 ghost use Rattle.io.specs.Counts.{IsPrefixLen};
 
 use std::fs::File;
-use std::io;
 use std::io::Read;
 use std::rt::Files;
+use std::{io, str};
 
 // No place in the data is past this.
 const FAR: usize = 1_000_000;
 
 // Reads a data file, as far as there is room. The answer is how many bytes were read, and 0 where there is no such file, of
-// which a line on standard error then tells.
-pub fn load(rt: &(impl Files + Eprint), path: &str, buf: &mut [u8]) -> usize
+// which a line on standard error then tells. Std names files by text, so no file has a name that is none.
+pub fn load(rt: &(impl Files + Eprint), path: &[u8], buf: &mut [u8]) -> usize
     ensures { IsPrefixLen result buf.new }
 {
-    match File::open(rt, path) {
+    match str::from_utf8(path) {
+        Ok(name) => load_named(rt, name, buf),
+        Err(error) => {
+            let _ = eprintln!(rt; "{error}");
+            0
+        }
+    }
+}
+
+fn load_named(rt: &(impl Files + Eprint), name: &str, buf: &mut [u8]) -> usize
+    ensures { IsPrefixLen result buf.new }
+{
+    match File::open(rt, name) {
         Ok(mut file) => fill(&mut file, buf),
         Err(error) => {
-            let _ = eprintln!(rt; "{path}: {error}");
+            let _ = eprintln!(rt; "{name}: {error}");
             0
         }
     }
