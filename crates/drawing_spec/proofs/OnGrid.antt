@@ -1,4 +1,5 @@
 -- Laws of specs/OnGrid: a drawing has all its points on the grid just where check 7 passes its sketch.
+use Rattle.std.specs.Prelude.{Option, Some, None}
 use mathlib.Core.Path.{◌≡◌, refl, ap}
 use mathlib.Core.Logic.{◌↔◌}
 use mathlib.Core.List.{List, [], ◌∷◌, map}
@@ -9,8 +10,6 @@ use lib.Ieee.{Float, nan, inf, fin, up, down, binary64, of_bits}
 use Rattle.grid.specs.Grid.{origin, origin_of_grid, grid_exponent, place_on_grid, place_of, read_on_grid, read_place, coordinate, on_grid, place_at}
 use Rattle.grid.proofs.Same.{passed}
 use Rattle.grid.proofs.Back.{place_coordinate}
-use Rattle.grid.specs.declared.Place.{Place}
-use Rattle.grid.specs.declared.Place.TheVariants.{On, Off}
 use Rattle.lists.specs.Members.{All}
 use Rattle.drawing_spec.specs.Drawing.{PointOf, LinkOf, Pattern, Sketch, over_point, over_link, over}
 use Rattle.drawing_spec.specs.Read.{Record, placed, sketch_of, drawing_of, every, point_fits, coordinates_fit}
@@ -19,7 +18,7 @@ use Rattle.drawing_spec.proofs.Same.{both}
 
 -- ---- a place is never past the grid
 
-place_below : (g : ℕ) (x : Float) (p : ℕ) → place_on_grid g x ≡ On p → p ≤ 2 * origin_of_grid g
+place_below : (g : ℕ) (x : Float) (p : ℕ) → place_on_grid g x ≡ Some p → p ≤ 2 * origin_of_grid g
 unfolding place_on_grid
 place_below g nan p e = absurd (true≢false (cc))
 place_below g (inf s) p e = absurd (true≢false (cc))
@@ -34,9 +33,9 @@ pub read_below : (b : ℕ) → on_grid (read_place b) ≡ true → place_at (rea
 unfolding read_on_grid
 read_below b h = go (read_place b) refl h
   where
-    go : (x : Place) → read_place b ≡ x → on_grid x ≡ true → place_at x ≤ 2 * origin
-    go (On p) e h = place_below grid_exponent (of_bits binary64 b) p e
-    go Off e h = absurd (true≢false (cc))
+    go : (x : Option ℕ) → read_place b ≡ x → on_grid x ≡ true → place_at x ≤ 2 * origin
+    go (Some p) e h = place_below grid_exponent (of_bits binary64 b) p e
+    go None e h = absurd (true≢false (cc))
 
 -- and the coordinate at a place is read as that place
 pub place_back : (p : ℕ) → p ≤ 2 * origin → place_at (place_of (coordinate p)) ≡ p
@@ -46,9 +45,9 @@ place_back p h = ap place_at (place_coordinate p h)
 pub below_read : (b : ℕ) → place_at (read_place b) ≤ 2 * origin → on_grid (read_place b) ≡ true
 below_read b h = go (read_place b) h
   where
-    go : (x : Place) → place_at x ≤ 2 * origin → on_grid x ≡ true
-    go (On p) h = refl
-    go Off h = absurd (omega arith)
+    go : (x : Option ℕ) → place_at x ≤ 2 * origin → on_grid x ≡ true
+    go (Some p) h = refl
+    go None h = absurd (omega arith)
 
 -- ---- a sketch that check 7 passes is a drawing on the grid
 

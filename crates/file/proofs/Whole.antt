@@ -1,7 +1,7 @@
 -- From what the passes find to the reader's answer. Assumes nothing.
-use Prim.Native.Nat.{ℕ, ◌+◌, ◌-◌, ◌≤◌}
+use Prim.Native.Nat.{ℕ, ◌+◌, ◌≤◌}
 use native.Mathlib.Omega.{arith}
-use mathlib.Core.Path.{◌≡◌, sym, ap, ◌∙◌}
+use mathlib.Core.Path.{◌≡◌, refl, sym, ap, ◌∙◌}
 use mathlib.Core.List.{List, ◌∷◌, map}
 use mathlib.Core.Bool.{Bool, true, false, ◌&&◌, ◌||◌, not}
 use lib.ListN.{length, replicate, length-map}
@@ -19,7 +19,7 @@ use Rattle.file_records.specs.declared.MstEdge.{MstEdge}
 use Rattle.file_reader.specs.Part.{behind_at}
 use Rattle.file_checks.specs.declared.Tally.{Tally}
 use Rattle.file_drawing.specs.declared.Drawing.{Drawing}
-use Rattle.file_checks.specs.Settings.{settings_in, no_settings}
+use Rattle.file_checks.specs.Settings.{settings_in}
 use Rattle.file_drawing.specs.Held.{no_link, drawing_held}
 use Rattle.file_records.specs.Meaning.{settings_of}
 use Rattle.file_checks.specs.Tally.{tallied, no_tally, order_fits}
@@ -34,7 +34,6 @@ use Rattle.file_drawing.specs.Links.{AtLinks, links_from}
 use Rattle.file_drawing.specs.Fit.{links_fit_in}
 use Rattle.file_drawing.proofs.Fit.{links_held}
 use Rattle.drawing_spec.specs.Accepted.{Passed}
-use Rattle.file.specs.Reading.{no_drawing}
 
 -- ---- what each test tells
 
@@ -42,8 +41,14 @@ module _ (rs : List Record) (t : Tally) (e : t ≡ tallied rs no_tally) where
   pub order_tells : (b v : Bool) → b ≡ order_fits t.order → b ≡ v → kinds_fit rs ≡ v
   order_tells b v h i = sym (h ∙ ap (λ (t : Tally). order_fits t.order) e ∙ kinds rs) ∙ i
 
-  pub lengths_tell : (v : Bool) → t.lengths ≡ v → lengths_fit rs ≡ v
-  lengths_tell v i = sym (ap (λ (t : Tally). t.lengths) e ∙ lengths rs no_tally) ∙ i
+  pub lengths_tell : (v : Bool) → not t.lengths ≡ not v → lengths_fit rs ≡ v
+  lengths_tell v i = sym (ap (λ (t : Tally). t.lengths) e ∙ lengths rs no_tally) ∙ not_same t.lengths v i
+    where
+      not_same : (a b : Bool) → not a ≡ not b → a ≡ b
+      not_same true true h = refl
+      not_same true false h = sym h
+      not_same false true h = sym h
+      not_same false false h = refl
 
   pub counts_tell : (b v : Bool) → b ≡ (leb t.lines most_lines && leb t.points most_points && leb t.links most_links) → b ≡ v → counts_fit (sketch_of rs) ≡ v
   counts_tell b v h i = sym (h ∙ counts_tally rs t e ∙ counts_placed rs) ∙ i
@@ -155,11 +160,3 @@ module _ (file : List ℕ) (p : Passed file) (d : Drawing) (e : d ≡ drawing_he
       ∙ links_held a f.0 f.2
       ∙ links_placed (records_of file))
       ∙ i
-
--- ---- the drawing of a refused file
-
-pub empty_made : (s : Settings) (k : MstEdge) → s ≡ no_settings → k ≡ no_link
-    → ◌≡◌ {A = Drawing} (record { settings = s; lines = 0; starts = replicate (most_lines + 1) 0; points = 0; xs = replicate most_points 0; ys = replicate most_points 0; link_count = 0; links = replicate most_links k }) (drawing_held no_drawing)
-unfolding drawing_held line_points ends_from
-empty_made s k es ek = ap (λ (s : Settings). record { settings = s; lines = 0; starts = replicate (most_lines + 1) 0; points = 0; xs = replicate most_points 0; ys = replicate most_points 0; link_count = 0; links = replicate most_links k }) es
-    ∙ ap (λ (k : MstEdge). record { settings = no_settings; lines = 0; starts = replicate (most_lines + 1) 0; points = 0; xs = replicate most_points 0; ys = replicate most_points 0; link_count = 0; links = replicate most_links k }) ek

@@ -5,16 +5,12 @@ ghost use Rattle.std.specs.Prelude.{◌≡◌};
 ghost use Rattle.drawing_spec.specs.Refusal.{verdict, refusal_of};
 ghost use Rattle.drawing_spec.specs.Read.{read_conditions};
 
-use file::Verdict;
-
 #[unsafe(no_mangle)]
 pub extern "C" fn reader_refusal(file: &[u8]) -> u32
     ensures { result ≡ refusal_of (verdict (read_conditions file.now)) }
 {
-    let reading = file::read(file);
-    let verdict = reading.verdict;
-    match verdict {
-        Verdict::Refused(number) => number as u32,
-        Verdict::Accepted => 0,
+    match file::read(file) {
+        Ok(_) => 0,
+        Err(refusal) => u32::from(refusal.number()),
     }
 }

@@ -7,19 +7,22 @@ use mathlib.Core.Bool.{Bool, true, false, ◌&&◌}
 use lib.ListN.{length, drop}
 use lib.Seq.{drop-drop}
 use lib.Dec.{eqb}
-use borrow.Author.Tests.{ne_eqb, eqb-true}
+use borrow.Author.Tests.{eqb-true}
 use Rattle.limits.specs.Limits.{kind_line, kind_link}
 use Rattle.grid.specs.Grid.{read_place, on_grid}
 use Rattle.drawing_spec.specs.Bytes.{number}
 use Rattle.drawing_spec.specs.Drawing.{PointOf, LinkOf, Pattern}
 use Rattle.drawing_spec.specs.Read.{Record, bodies, every, lengths_fit, coordinates_fit, point_fits, spots, spots_of_line, sketched_link, sketch_of, records_of, is_cut}
 use Rattle.drawing_spec.proofs.Records.{bodies_here, bodies_other}
+use Rattle.file_records.specs.declared.Kind.{Kind}
+use Rattle.file_records.specs.Kind.{kind_of}
 use Rattle.file_records.specs.Walk.{size_at, kind_at, body_at, next_at, records_from, cut_from}
+use Rattle.file_records.proofs.KindsLaws.{Number, first, second, third, none, number_of}
 use Rattle.file_records.proofs.Walk.{record_at, none_left, room, still_whole, record_here, body_long}
 use Rattle.file_reader.specs.Part.{body_part, behind_at}
 use Rattle.file_reader.proofs.Part.{part_is, behind_is}
 use Rattle.file_checks.specs.Tally.{length_fits}
-use Rattle.file_checks.proofs.TallyLaws.{and_assoc, Kind, first, second, third, none, kind_of, lengths_cons}
+use Rattle.file_checks.proofs.TallyLaws.{and_assoc, lengths_cons}
 use Rattle.file_checks.specs.Coordinates.{body_on, words, words_on}
 
 -- ---- what the code computes
@@ -52,9 +55,9 @@ and_swap true a b = refl
 and_swap false true b = refl
 and_swap false false b = refl
 
-coordinates_cons : (r : Record) (rs : List Record) → coordinates_in (r ∷ rs) ≡ body_on r.kind r.body && coordinates_in rs
+coordinates_cons : (r : Record) (rs : List Record) → coordinates_in (r ∷ rs) ≡ body_on (kind_of r.kind) r.body && coordinates_in rs
 unfolding coordinates_in every words_on
-coordinates_cons r rs = go (kind_of r.kind)
+coordinates_cons r rs = go (number_of r.kind)
   where
     two : List Record → Bool
     two rs = every (λ (b : List ℕ). every (λ (w : ℕ). on_grid (read_place w)) (words (length b / 8) b)) (bodies 2 rs)
@@ -62,11 +65,11 @@ coordinates_cons r rs = go (kind_of r.kind)
     three : List Record → Bool
     three rs = every (λ (b : List ℕ). every (λ (w : ℕ). on_grid (read_place w)) (words 4 (drop 8 b))) (bodies 3 rs)
 
-    go : Kind r.kind → coordinates_in (r ∷ rs) ≡ body_on r.kind r.body && coordinates_in rs
+    go : Number r.kind → coordinates_in (r ∷ rs) ≡ body_on (kind_of r.kind) r.body && coordinates_in rs
     go (first e) = rw (bodies_other 2 r rs (λ q. omega arith), bodies_other 3 r rs (λ q. omega arith), e)
     go (second e) = rw (bodies_here 2 r rs e, bodies_other 3 r rs (λ q. omega arith), e) (and_assoc (words_on r.body 0 (length r.body / 8)) (two rs) (three rs))
     go (third e) = rw (bodies_other 2 r rs (λ q. omega arith), bodies_here 3 r rs e, e) (and_swap (words_on r.body 8 4) (two rs) (three rs))
-    go (none p q s) = rw (bodies_other 2 r rs q, bodies_other 3 r rs s, ne_eqb r.kind 2 q, ne_eqb r.kind 3 s)
+    go (none p q s o) = rw (bodies_other 2 r rs q, bodies_other 3 r rs s, o)
 
 pub and_first : (a b : Bool) → a && b ≡ true → a ≡ true
 and_first true b h = refl
@@ -78,18 +81,18 @@ and_second false b h = let z : ◌≡◌ {A = ℕ} 0 1 = cc in absurd (omega ari
 
 -- the record at a place of a file that is whole there and whose bodies have their lengths
 module _ (file : List ℕ) (at : ℕ) (h : at < length file) (w : cut_from file at ≡ false) (l : lengths_fit (records_from file at) ≡ true) where
-  both : length_fits (kind_at file at) (length (body_at file at)) && lengths_fit (records_from file (next_at file at)) ≡ true
+  both : length_fits (kind_of (kind_at file at)) (length (body_at file at)) && lengths_fit (records_from file (next_at file at)) ≡ true
   both = sym (lengths_cons (record_at file at) (records_from file (next_at file at))) ∙ sym (ap lengths_fit (record_here file at h w)) ∙ l
 
-  pub length_here : length_fits (kind_at file at) (size_at file at) ≡ true
+  pub length_here : length_fits (kind_of (kind_at file at)) (size_at file at) ≡ true
   length_here =
-      ap (length_fits (kind_at file at)) (sym (body_long file at h w))
-      ∙ and_first (length_fits (kind_at file at) (length (body_at file at))) (lengths_fit (records_from file (next_at file at))) both
+      ap (length_fits (kind_of (kind_at file at))) (sym (body_long file at h w))
+      ∙ and_first (length_fits (kind_of (kind_at file at)) (length (body_at file at))) (lengths_fit (records_from file (next_at file at))) both
 
   pub lengths_after : lengths_fit (records_from file (next_at file at)) ≡ true
-  lengths_after = and_second (length_fits (kind_at file at) (length (body_at file at))) (lengths_fit (records_from file (next_at file at))) both
+  lengths_after = and_second (length_fits (kind_of (kind_at file at)) (length (body_at file at))) (lengths_fit (records_from file (next_at file at))) both
 
-  on_step : coordinates_in (records_from file at) ≡ body_on (kind_at file at) (body_at file at) && coordinates_in (records_from file (next_at file at))
+  on_step : coordinates_in (records_from file at) ≡ body_on (kind_of (kind_at file at)) (body_at file at) && coordinates_in (records_from file (next_at file at))
   on_step = ap coordinates_in (record_here file at h w) ∙ coordinates_cons (record_at file at) (records_from file (next_at file at))
 
 -- ---- all records: it is check 7 of the sketch
@@ -156,18 +159,18 @@ pub check_end : (file : List ℕ) (at : ℕ) → Checking file at → length fil
 unfolding coordinates_in bodies every
 check_end file at c h = sym (ap coordinates_in (none_left file at h)) ∙ c.same
 
-module _ (file : List ℕ) (at k : ℕ) (b : List ℕ) (c : Checking file at) (h : at < length file) (K : k ≡ kind_at file at) (E : b ≡ body_part file at) where
+module _ (file : List ℕ) (at : ℕ) (k : Kind) (b : List ℕ) (c : Checking file at) (h : at < length file) (K : k ≡ kind_of (kind_at file at)) (E : b ≡ body_part file at) where
   body_is : b ≡ body_at file at
   body_is = E ∙ part_is file at h c.is_whole
 
   pub body_fits : length_fits k (length b) ≡ true
   body_fits =
-      ap (λ (k : ℕ). length_fits k (length b)) K
-      ∙ ap (length_fits (kind_at file at)) (ap length body_is ∙ body_long file at h c.is_whole)
+      ap (λ (k : Kind). length_fits k (length b)) K
+      ∙ ap (length_fits (kind_of (kind_at file at))) (ap length body_is ∙ body_long file at h c.is_whole)
       ∙ length_here file at h c.is_whole c.lengths_fit_known
 
-  here : (v : Bool) → body_on k b ≡ v → body_on (kind_at file at) (body_at file at) ≡ v
-  here v e = sym (ap (λ (k : ℕ). body_on k b) K ∙ ap (body_on (kind_at file at)) body_is) ∙ e
+  here : (v : Bool) → body_on k b ≡ v → body_on (kind_of (kind_at file at)) (body_at file at) ≡ v
+  here v e = sym (ap (λ (k : Kind). body_on k b) K ∙ ap (body_on (kind_of (kind_at file at))) body_is) ∙ e
 
   pub check_off : body_on k b ≡ false → false ≡ coordinates_fit (sketch_of (records_of file))
   check_off e = ap (λ (t : Bool). t && coordinates_in (records_from file (next_at file at))) (sym (here false e)) ∙ sym (on_step file at h c.is_whole c.lengths_fit_known) ∙ c.same
@@ -186,13 +189,29 @@ module _ (file : List ℕ) (at k : ℕ) (b : List ℕ) (c : Checking file at) (h
             ∙ c.same;
       }
 
--- ---- the loop over a row
+-- ---- the loop over a row: of the n coordinates from `at` on, those from the i-th on
 
-pub row_on : (file : List ℕ) (at n place left : ℕ) → words_on file place left ≡ words_on file at n → 0 < left → on (number 8 (drop place file)) ≡ true → words_on file (place + 8) (left - 1) ≡ words_on file at n
-row_on file at n place left e h o = sym (row_step file place left h ∙ ap (λ (b : Bool). b && words_on file (place + 8) (left - 1)) o) ∙ e
+module _ (file : List ℕ) (at n : ℕ) where
+  abbrev pub RowLeft : ℕ → Type 0
+  RowLeft i = words_on file (at + 8 * i) (n - i) ≡ words_on file at n
 
-pub row_off : (file : List ℕ) (at n place left : ℕ) → words_on file place left ≡ words_on file at n → 0 < left → on (number 8 (drop place file)) ≡ false → false ≡ words_on file at n
-row_off file at n place left e h o = sym (row_step file place left h ∙ ap (λ (b : Bool). b && words_on file (place + 8) (left - 1)) o) ∙ e
+  pub row_start : RowLeft 0
+  row_start =
+      let p : at + 8 * 0 ≡ at = omega arith in
+      let q : n - 0 ≡ n = omega arith in
+      λ j. words_on file (p j) (q j)
 
-pub row_end : (file : List ℕ) (at n place left : ℕ) → words_on file place left ≡ words_on file at n → left ≤ 0 → true ≡ words_on file at n
-row_end file at n place left e h = let z : left ≡ 0 = omega arith in sym (ap (words_on file place) z ∙ row_none file place) ∙ e
+  left_on : (i : ℕ) → RowLeft i → i < n → on (number 8 (drop (at + 8 * i) file)) && words_on file (at + 8 * (i + 1)) (n - (i + 1)) ≡ words_on file at n
+  left_on i e h =
+      let p : at + 8 * (i + 1) ≡ at + 8 * i + 8 = omega arith in
+      let q : n - (i + 1) ≡ n - i - 1 = omega arith in
+      (λ j. on (number 8 (drop (at + 8 * i) file)) && words_on file (p j) (q j)) ∙ sym (row_step file (at + 8 * i) (n - i) (omega arith)) ∙ e
+
+  pub row_on : (i : ℕ) → RowLeft i → i < n → on (number 8 (drop (at + 8 * i) file)) ≡ true → RowLeft (i + 1)
+  row_on i e h o = sym (ap (λ (b : Bool). b && words_on file (at + 8 * (i + 1)) (n - (i + 1))) o) ∙ left_on i e h
+
+  pub row_off : (i : ℕ) → RowLeft i → i < n → on (number 8 (drop (at + 8 * i) file)) ≡ false → false ≡ words_on file at n
+  row_off i e h o = sym (ap (λ (b : Bool). b && words_on file (at + 8 * (i + 1)) (n - (i + 1))) o) ∙ left_on i e h
+
+  pub row_end : (i : ℕ) → RowLeft i → n ≤ i → true ≡ words_on file at n
+  row_end i e h = let z : n - i ≡ 0 = omega arith in sym (ap (words_on file (at + 8 * i)) z ∙ row_none file (at + 8 * i)) ∙ e

@@ -7,8 +7,6 @@ pub mod coordinates;
 pub mod heads;
 pub mod settings;
 
-ghost use Rattle.std.specs.Prelude.{◌≡◌, ◌&&◌};
-
 // What may come next in a file: its settings; lines or links; links only. `Broken` is a file whose
 // records do not come in that order.
 #[derive(Clone, Copy)]
@@ -28,13 +26,4 @@ pub struct Tally {
     pub lines: usize,
     pub points: usize,
     pub links: usize,
-}
-
-pub fn both(a: bool, b: bool) -> bool
-    ensures { result ≡ (a && b) }
-{
-    if a {
-        return b;
-    }
-    false
 }

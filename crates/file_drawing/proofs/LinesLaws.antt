@@ -14,6 +14,7 @@ use Rattle.drawing_spec.specs.Bytes.{number}
 use Rattle.drawing_spec.specs.Drawing.{Point, line_points}
 use Rattle.drawing_spec.specs.Read.{points, points_of_line, bodies, total, lines_then_links, lengths_fit}
 use Rattle.drawing_spec.proofs.Placed.{point_is, points_one}
+use Rattle.file_records.specs.Kind.{kind_of}
 use Rattle.file_records.specs.Walk.{size_at, kind_at, body_at, next_at, records_from, cut_from}
 use Rattle.file_records.proofs.Walk.{record_at, room, still_whole, record_here, body_long}
 use Rattle.file_records.specs.Body.{record_read}
@@ -45,22 +46,31 @@ unfolding points
 points_long zero bs = refl
 points_long (suc n) bs = ap suc (points_long n (drop 16 bs))
 
--- the loop over a line's points: f is x or y
+-- the loop over a line's points, from the i-th on: f is x or y
 module _ (f : Point → ℕ) (body : List ℕ) (n first : ℕ) (start : List ℕ) where
-  abbrev pub Placing : ℕ → ℕ → ℕ → List ℕ → Type 0
-  Placing place left i now = sets now i (map f (points left (drop place body))) ≡ sets start first (map f (points n body))
+  abbrev pub Placing : ℕ → List ℕ → Type 0
+  Placing i now = sets now (first + i) (map f (points (n - i) (drop (16 * i) body))) ≡ sets start first (map f (points n body))
 
-  pub placed : (place left i : ℕ) (now : List ℕ) → Placing place left i now → left ≤ 0 → now ≡ sets start first (map f (points n body))
+  pub place_none : Placing 0 start
+  place_none =
+      let p : first + 0 ≡ first = omega arith in
+      let q : n - 0 ≡ n = omega arith in
+      λ j. sets start (p j) (map f (points (q j) body))
+
+  pub placed : (i : ℕ) (now : List ℕ) → Placing i now → n ≤ i → now ≡ sets start first (map f (points n body))
   unfolding points
-  placed place left i now e h = let z : left ≡ 0 = omega arith in sym (ap (λ (k : ℕ). sets now i (map f (points k (drop place body)))) z) ∙ e
+  placed i now e h = let z : n - i ≡ 0 = omega arith in sym (ap (λ (k : ℕ). sets now (first + i) (map f (points k (drop (16 * i) body)))) z) ∙ e
 
-  pub placing : (place left i v : ℕ) (now : List ℕ) → Placing place left i now → 0 < left
-      → v ≡ f (record { x = place_at (read_place (number 8 (drop place body))); y = place_at (read_place (number 8 (drop (place + 8) body))) })
-      → Placing (place + 16) (left - 1) (i + 1) (set now i v)
-  placing place left i v now e h is =
-      ap (λ (k : ℕ). sets (set now i v) k (map f (points (left - 1) (drop (place + 16) body)))) (add-one i)
-      ∙ ap (λ (v : ℕ). sets (set now i v) (suc i) (map f (points (left - 1) (drop (place + 16) body)))) is
-      ∙ sym (ap (λ (ps : List Point). sets now i (map f ps)) (points_step body place left h))
+  pub placing : (i v : ℕ) (now : List ℕ) → Placing i now → i < n
+      → v ≡ f (record { x = place_at (read_place (number 8 (drop (16 * i) body))); y = place_at (read_place (number 8 (drop (16 * i + 8) body))) })
+      → Placing (i + 1) (set now (first + i) v)
+  placing i v now e h is =
+      let p : first + (i + 1) ≡ suc (first + i) = omega arith in
+      let q : n - (i + 1) ≡ n - i - 1 = omega arith in
+      let r : 16 * (i + 1) ≡ 16 * i + 16 = omega arith in
+      (λ j. sets (set now (first + i) v) (p j) (map f (points (q j) (drop (r j) body))))
+      ∙ ap (λ (v : ℕ). sets (set now (first + i) v) (suc (first + i)) (map f (points (n - i - 1) (drop (16 * i + 16) body)))) is
+      ∙ sym (ap (λ (ps : List Point). sets now (first + i) (map f ps)) (points_step body (16 * i) (n - i) (omega arith)))
       ∙ e
 
 -- ---- the line at a place, where lines are left
@@ -84,7 +94,7 @@ module _ (file : List ℕ) (at : ℕ) (w : cut_from file at ≡ false) (o : line
   pub points_here : points_of (record_read file at).body ≡ size_at file at / 16
   points_here =
       let k = next.0 in
-      let b = body_line file at (kind_at file at) (size_at file at) refl refl (λ q. omega arith) k whole_points in
+      let b = body_line file at (size_at file at) refl (sym (ap kind_of k)) whole_points in
       sym (ap (λ r. points_of r.body) (record_whole file at true (sym (le-leb (next_at file at) (length file) (room file at here w))) (body.Line (size_at file at / 16)) refl b))
 
   bodies_next : (k : ℕ) → kind_at file at ≡ k → bodies k (records_from file at) ≡ body_at file at ∷ bodies k (records_from file (next_at file at))

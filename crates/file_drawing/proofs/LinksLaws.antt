@@ -1,5 +1,5 @@
 -- Laws of specs/Links.
-use Prim.Native.Nat.{ℕ, suc, ◌+◌, ◌-◌, ◌≤◌, ◌<◌}
+use Prim.Native.Nat.{ℕ, suc, ◌+◌, ◌≤◌, ◌<◌}
 use native.Mathlib.Numerals.{add-one}
 use native.Mathlib.Omega.{arith}
 use mathlib.Core.Path.{◌≡◌, refl, sym, ap, ◌∙◌, subst}
@@ -10,6 +10,7 @@ use lib.Seq.{sets}
 use borrow.Author.Tests.{le-leb}
 use Rattle.limits.specs.Limits.{most_links}
 use Rattle.drawing_spec.specs.Read.{link_of, bodies, lengths_fit, all_links}
+use Rattle.file_records.specs.Kind.{kind_of}
 use Rattle.file_records.specs.Walk.{size_at, kind_at, body_at, next_at, records_from, cut_from}
 use Rattle.file_records.proofs.Walk.{record_at, room, still_whole, record_here}
 use Rattle.file_records.specs.Body.{edge_from, record_read}
@@ -45,7 +46,7 @@ module _ (file : List ℕ) (at : ℕ) (w : cut_from file at ≡ false) (o : all_
   edge_here =
       let k = next.0 in
       let e = edge_from (link_of (drop (at + 6) file)) in
-      let b = body_link file at (kind_at file at) (size_at file at) refl refl e (λ q. omega arith) (λ q. omega arith) k long refl in
+      let b = body_link file at (size_at file at) refl e (sym (ap kind_of k)) long refl in
       sym (ap (λ r. link_in r.body) (record_whole file at true (sym (le-leb (next_at file at) (length file) (room file at here w))) (body.Link e) refl b))
       ∙ ap edge_from (sym (ap (λ (n : ℕ). link_of (take n (drop (at + 6) file))) long ∙ link_front (drop (at + 6) file)))
 

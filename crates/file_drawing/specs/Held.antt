@@ -1,5 +1,5 @@
 -- The values that the drawing holds, and what stands where there are none.
-use Rattle.std.specs.Prelude.{ℕ, ◌+◌, ◌-◌, ◌∷◌, map, false, pos, length}
+use Rattle.std.specs.Prelude.{ℕ, ◌+◌, ◌∷◌, map, false, pos, length}
 use Rattle.std.specs.Float.{fin, nan}
 use Rattle.limits.specs.Limits.{most_lines, most_points, most_links}
 use Rattle.drawing_spec.specs.Drawing as drawn

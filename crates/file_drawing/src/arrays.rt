@@ -31,10 +31,8 @@ fn points_of(body: Body) -> usize
     ensures { result ≡ points_of body }
 {
     match body {
-        Body::Settings(_) => 0,
         Body::Line(points) => points,
-        Body::Link(_) => 0,
-        Body::Other => 0,
+        Body::Settings(_) | Body::Link(_) | Body::Other => 0,
     }
 }
 
@@ -42,13 +40,9 @@ fn points_of(body: Body) -> usize
 fn link_of(file: &[u8], at: usize) -> MstEdge
     ensures { result ≡ link_in (record_read file.now at).body }
 {
-    let found = file_records::record_at(file, at);
-    let body = found.body;
-    match body {
-        Body::Settings(_) => no_link(),
-        Body::Line(_) => no_link(),
+    match file_records::record_at(file, at).body {
         Body::Link(edge) => edge,
-        Body::Other => no_link(),
+        Body::Settings(_) | Body::Line(_) | Body::Other => no_link(),
     }
 }
 
@@ -64,20 +58,16 @@ fn fill_points(
     ensures xs_filled { xs.new ≡ sets xs.old first (xs_of (points count body.now)) }
     ensures ys_filled { ys.new ≡ sets ys.old first (ys_of (points count body.now)) }
 {
-    let mut place = 0;
-    let mut left = count;
-    let mut i = first;
-    while left > 0 {
-        xs[i] = file_records::place_at(body, place);
-        ys[i] = file_records::place_at(body, place + 8);
-        place += POINT_SIZE;
-        left -= 1;
-        i += 1;
+    for i in 0..count {
+        let place = POINT_SIZE * i;
+        xs[first + i] = file_records::place_at(body, place);
+        ys[first + i] = file_records::place_at(body, place + 8);
     }
 }
 
 // Puts the lines of a file, of which there are `count`, from the place of the first on, into the arrays: `starts` from
-// its index 1 on, since `starts[0]` is 0 already. The answer is the place of the first link.
+// its index 1 on, since `starts[0]` is 0 already. The answer is the place of the first link. The arrays are lent one by one: lent a
+// whole `Drawing`, this contract and `fill_points`'s would have to say of its five other fields that they stay.
 pub fn fill_lines(
     file: &[u8],
     start: usize,
@@ -90,20 +80,14 @@ pub fn fill_lines(
     ensures { LinesRead file.now start (arrays starts.old xs.old ys.old) (arrays starts.new xs.new ys.new) result }
 {
     let mut at = start;
-    let mut line = 0;
     let mut filled = 0;
-    while line < count {
+    for line in 0..count {
         let found = file_records::record_at(file, at);
-        let place = found.at;
-        let body = found.body;
-        let points = points_of(body);
-        let part = file_reader::body_of(file, place);
-        let next = file_reader::place_behind(file, place);
-        fill_points(part, points, filled, xs, ys);
+        let points = points_of(found.body);
+        fill_points(file_reader::body_of(file, found.at), points, filled, xs, ys);
         filled += points;
-        line += 1;
-        starts[line] = filled as u16;
-        at = next;
+        starts[line + 1] = filled as u16;
+        at = file_reader::place_behind(file, found.at);
     }
     at
 }
@@ -115,11 +99,9 @@ pub fn read_links(file: &[u8], start: usize, count: usize) -> [MstEdge; MOST_LIN
 {
     let mut edges = [no_link(); MOST_LINKS];
     let mut at = start;
-    let mut link = 0;
-    while link < count {
+    for link in 0..count {
         edges[link] = link_of(file, at);
         at = file_reader::place_behind(file, at);
-        link += 1;
     }
     edges
 }

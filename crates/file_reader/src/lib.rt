@@ -25,37 +25,37 @@ pub struct NextRecord<'a> {
 fn body_part(file: &[u8], at: usize) -> &[u8]
     ensures { result.now ≡ body_part file.now at }
 {
-    if file_records::whole_at(file, at) {
-        let size = file_records::size_at(file, at);
-        let start = at + HEAD_SIZE;
-        let end = start + size;
-        return &file[start..end];
+    if !file_records::whole_at(file, at) {
+        return &[];
     }
-    let none: usize = 0;
-    &file[none..none]
+    let start = at + HEAD_SIZE;
+    let end = start + file_records::size_at(file, at);
+    &file[start..end]
 }
 
 // The place behind the record at a place, and that place itself where none stands there whole.
 fn behind_at(file: &[u8], at: usize) -> usize
     ensures { result ≡ behind_at file.now at }
 {
-    if file_records::whole_at(file, at) {
-        let size = file_records::size_at(file, at);
-        return at + (HEAD_SIZE + size);
+    if !file_records::whole_at(file, at) {
+        return at;
     }
-    at
+    at + (HEAD_SIZE + file_records::size_at(file, at))
 }
 
-// The body of the record that the reader stands at, as a part of the file's bytes, and the reader behind that record. Where none
-// stands there whole, the body is empty and the reader stays.
-pub fn next<'a>(r: RecordReader<'a>) -> NextRecord<'a>
-    ensures { (result.body.now ≡ body_part r.entry.file.now r.entry.at) × (result.behind.file ≡ r.entry.file) × (result.behind.at ≡ behind_at r.entry.file.now r.entry.at) }
-{
-    let body = body_part(r.file, r.at);
-    let at = behind_at(r.file, r.at);
-    NextRecord {
-        body,
-        behind: RecordReader { file: r.file, at },
+impl<'a> RecordReader<'a> {
+    // The body of the record that the reader stands at, as a part of the file's bytes, and the reader behind that record. Where none
+    // stands there whole, the body is empty and the reader stays.
+    pub fn next(self) -> NextRecord<'a>
+        ensures { (result.body.now ≡ body_part self.entry.file.now self.entry.at) × (result.behind.file ≡ self.entry.file) × (result.behind.at ≡ behind_at self.entry.file.now self.entry.at) }
+    {
+        NextRecord {
+            body: body_part(self.file, self.at),
+            behind: RecordReader {
+                file: self.file,
+                at: behind_at(self.file, self.at),
+            },
+        }
     }
 }
 
@@ -63,11 +63,11 @@ pub fn next<'a>(r: RecordReader<'a>) -> NextRecord<'a>
 pub fn body_of(file: &[u8], at: usize) -> &[u8]
     ensures { result.now ≡ body_part file.now at }
 {
-    next(RecordReader { file, at }).body
+    RecordReader { file, at }.next().body
 }
 
 pub fn place_behind(file: &[u8], at: usize) -> usize
     ensures { result ≡ behind_at file.now at }
 {
-    next(RecordReader { file, at }).behind.at
+    RecordReader { file, at }.next().behind.at
 }

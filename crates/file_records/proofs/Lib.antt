@@ -4,3 +4,4 @@ pub mod Numbers
 pub mod Plain
 pub mod View
 pub mod Walk
+pub mod KindsLaws

@@ -4,7 +4,6 @@ use mathlib.Core.Path.{◌≡◌, refl, sym, ap, ◌∙◌}
 use mathlib.Core.List.{List}
 use mathlib.Core.Bool.{Bool, true, false}
 use lib.ListN.{drop}
-use lib.Dec.{eqb}
 use lib.Ieee.{Float}
 use borrow.Author.Tests.{eq-eqb, ne_eqb}
 use Rattle.grid.specs.Grid.{read_place, coordinate, place_at}
@@ -16,8 +15,11 @@ use Rattle.file_records.specs.declared.MstEdge.{MstEdge}
 use Rattle.file_records.specs.declared.Body.{Body}
 use Rattle.file_records.specs.declared.Body.TheVariants as body
 use Rattle.file_records.specs.declared.Record.{Record}
+use Rattle.file_records.specs.declared.Kind.TheVariants as kind
+use Rattle.file_records.specs.Kind.{kind_of}
 use Rattle.file_records.specs.Walk.{size_at, kind_at}
 use Rattle.file_records.specs.Body.{settings_from, point_from, edge_from, body_read, whole_at, record_read}
+use Rattle.file_records.proofs.KindsLaws.{settings_number, line_number, link_number, other_number}
 use Rattle.file_records.proofs.View.{settings_at, point_at, link_at, settings_front, link_front}
 
 module _ (at : ℕ) (file : List ℕ) where
@@ -35,51 +37,41 @@ module _ (at : ℕ) (file : List ℕ) where
       → ◌≡◌ {A = MstEdge} (record { poly_a = a; seg_a = b; poly_b = c; seg_b = d; point_a = p; point_b = q }) (edge_from (link_of (drop at file)))
   edge_made a b c d p q ea eb ec ed ep eq = cc (link_at at file)
 
--- a body by its kind k and its length n
-module _ (file : List ℕ) (at k n : ℕ) (K : k ≡ kind_at file at) (N : n ≡ size_at file at) where
-  is : (l : ℕ) → k ≡ l → eqb (kind_at file at) l ≡ true
-  is l e = eq-eqb (kind_at file at) l (sym K ∙ e)
-
-  other : (l : ℕ) → (k ≡ l → ⊥) → eqb (kind_at file at) l ≡ false
-  other l e = ne_eqb (kind_at file at) l (λ q. e (K ∙ q))
-
-  long : (l : ℕ) → n ≡ l → eqb (size_at file at) l ≡ true
-  long l e = eq-eqb (size_at file at) l (sym N ∙ e)
-
-  short : (l : ℕ) → (n ≡ l → ⊥) → eqb (size_at file at) l ≡ false
-  short l e = ne_eqb (size_at file at) l (λ q. e (N ∙ q))
-
-  pub body_settings : (s : Settings) → k ≡ 1 → n ≡ 10 → s ≡ settings_from (settings_of (drop (at + 6) file)) → body.Settings s ≡ body_read file at
+-- a body by its kind and its length n
+module _ (file : List ℕ) (at n : ℕ) (N : n ≡ size_at file at) where
+  pub body_settings : (s : Settings) → kind.Settings ≡ kind_of (kind_at file at) → n ≡ 10 → s ≡ settings_from (settings_of (drop (at + 6) file)) → body.Settings s ≡ body_read file at
   unfolding body_read
   body_settings s e l m =
       let z : size_at file at ≡ 10 = sym N ∙ l in
-      rw (is 1 e, long 10 l, z) (ap body.Settings (m ∙ ap settings_from (sym (settings_front (drop (at + 6) file)))))
+      rw (settings_number (kind_at file at) e, z) (ap body.Settings (m ∙ ap settings_from (sym (settings_front (drop (at + 6) file)))))
 
-  pub no_settings : k ≡ 1 → (n ≡ 10 → ⊥) → body.Other ≡ body_read file at
+  pub no_settings : kind.Settings ≡ kind_of (kind_at file at) → (n ≡ 10 → ⊥) → body.Other ≡ body_read file at
   unfolding body_read
-  no_settings e l = rw (is 1 e, short 10 l)
+  no_settings e l = rw (settings_number (kind_at file at) e, ne_eqb (size_at file at) 10 (λ q. l (N ∙ q)))
 
-  pub body_line : (k ≡ 1 → ⊥) → k ≡ 2 → n % 16 ≡ 0 → body.Line (n / 16) ≡ body_read file at
+  pub body_line : kind.Line ≡ kind_of (kind_at file at) → n % 16 ≡ 0 → body.Line (n / 16) ≡ body_read file at
   unfolding body_read
-  body_line d e l = rw (other 1 d, is 2 e, eq-eqb (size_at file at % 16) 0 (ap (λ (m : ℕ). m % 16) (sym N) ∙ l)) (ap (λ (m : ℕ). body.Line (m / 16)) N)
+  body_line e l = rw (line_number (kind_at file at) e, eq-eqb (size_at file at % 16) 0 (ap (λ (m : ℕ). m % 16) (sym N) ∙ l)) (ap (λ (m : ℕ). body.Line (m / 16)) N)
 
-  pub no_line : (k ≡ 1 → ⊥) → k ≡ 2 → (n % 16 ≡ 0 → ⊥) → body.Other ≡ body_read file at
+  pub no_line : kind.Line ≡ kind_of (kind_at file at) → (n % 16 ≡ 0 → ⊥) → body.Other ≡ body_read file at
   unfolding body_read
-  no_line d e l = rw (other 1 d, is 2 e, ne_eqb (size_at file at % 16) 0 (λ q. l (ap (λ (m : ℕ). m % 16) N ∙ q)))
+  no_line e l = rw (line_number (kind_at file at) e, ne_eqb (size_at file at % 16) 0 (λ q. l (ap (λ (m : ℕ). m % 16) N ∙ q)))
 
-  pub body_link : (s : MstEdge) → (k ≡ 1 → ⊥) → (k ≡ 2 → ⊥) → k ≡ 3 → n ≡ 40 → s ≡ edge_from (link_of (drop (at + 6) file)) → body.Link s ≡ body_read file at
+  pub body_link : (s : MstEdge) → kind.Link ≡ kind_of (kind_at file at) → n ≡ 40 → s ≡ edge_from (link_of (drop (at + 6) file)) → body.Link s ≡ body_read file at
   unfolding body_read
-  body_link s d d' e l m =
+  body_link s e l m =
       let z : size_at file at ≡ 40 = sym N ∙ l in
-      rw (other 1 d, other 2 d', is 3 e, long 40 l, z) (ap body.Link (m ∙ ap edge_from (sym (link_front (drop (at + 6) file)))))
+      rw (link_number (kind_at file at) e, z) (ap body.Link (m ∙ ap edge_from (sym (link_front (drop (at + 6) file)))))
 
-  pub no_link : (k ≡ 1 → ⊥) → (k ≡ 2 → ⊥) → k ≡ 3 → (n ≡ 40 → ⊥) → body.Other ≡ body_read file at
+  pub no_link : kind.Link ≡ kind_of (kind_at file at) → (n ≡ 40 → ⊥) → body.Other ≡ body_read file at
   unfolding body_read
-  no_link d d' e l = rw (other 1 d, other 2 d', is 3 e, short 40 l)
+  no_link e l = rw (link_number (kind_at file at) e, ne_eqb (size_at file at) 40 (λ q. l (N ∙ q)))
 
-  pub no_kind : (k ≡ 1 → ⊥) → (k ≡ 2 → ⊥) → (k ≡ 3 → ⊥) → body.Other ≡ body_read file at
-  unfolding body_read
-  no_kind d d' e = rw (other 1 d, other 2 d', other 3 e)
+pub no_kind : (file : List ℕ) (at : ℕ) → kind.Other ≡ kind_of (kind_at file at) → body.Other ≡ body_read file at
+unfolding body_read
+no_kind file at e =
+    let other = other_number (kind_at file at) e in
+    rw (ne_eqb (kind_at file at) 1 other.0, ne_eqb (kind_at file at) 2 other.1, ne_eqb (kind_at file at) 3 other.2)
 
 pub record_place : (file : List ℕ) (at : ℕ) → (record_read file at).at ≡ at
 unfolding record_read

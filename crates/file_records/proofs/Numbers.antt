@@ -56,3 +56,23 @@ number_one at bs = rw (get_or-drop at bs 0 0, add-zero at, add-zero)
 
 pub number_two : (at : ℕ) (bs : List ℕ) → number 2 (drop at bs) ≡ get_or bs at 0 + 256 * get_or bs (at + 1) 0
 number_two at bs = number_parts_at 1 1 at bs ∙ rw (number_one at bs, number_one (at + 1) bs)
+
+number_two_on : (at k : ℕ) (bs : List ℕ) → number 2 (drop (at + k) bs) ≡ get_or bs (at + k) 0 + 256 * get_or bs (at + (k + 1)) 0
+number_two_on at k bs = number_two (at + k) bs ∙ ap (λ (n : ℕ). get_or bs (at + k) 0 + 256 * get_or bs n 0) (omega arith)
+
+number_four_on : (at k : ℕ) (bs : List ℕ)
+    → number 4 (drop (at + k) bs)
+    ≡ get_or bs (at + k) 0 + 256 * get_or bs (at + (k + 1)) 0 + 65536 * (get_or bs (at + (k + 2)) 0 + 256 * get_or bs (at + (k + 3)) 0)
+number_four_on at k bs =
+    let e : at + k + 2 ≡ at + (k + 2) = omega arith in
+    let f : at + (k + 2 + 1) ≡ at + (k + 3) = omega arith in
+    omega (arith, number_parts_at 2 2 (at + k) bs, number_two_on at k bs, ap (λ (n : ℕ). number 2 (drop n bs)) e, number_two_on at (k + 2) bs, ap (λ (n : ℕ). get_or bs n 0) f)
+
+pub number_four : (at : ℕ) (bs : List ℕ) → number 4 (drop at bs) ≡ get_or bs at 0 + 256 * get_or bs (at + 1) 0 + 65536 * (get_or bs (at + 2) 0 + 256 * get_or bs (at + 3) 0)
+number_four at bs = omega (arith, number_parts_at 2 2 at bs, number_two at bs, number_two_on at 2 bs)
+
+pub number_eight : (at : ℕ) (bs : List ℕ)
+    → number 8 (drop at bs)
+    ≡ get_or bs at 0 + 256 * get_or bs (at + 1) 0 + 65536 * (get_or bs (at + 2) 0 + 256 * get_or bs (at + 3) 0)
+    + 4294967296 * (get_or bs (at + 4) 0 + 256 * get_or bs (at + 5) 0 + 65536 * (get_or bs (at + 6) 0 + 256 * get_or bs (at + 7) 0))
+number_eight at bs = omega (arith, number_parts_at 4 4 at bs, number_four at bs, number_four_on at 4 bs)

@@ -2,3 +2,4 @@
 pub mod Walk
 pub mod Body
 pub mod Meaning
+pub mod Kind

@@ -7,12 +7,35 @@ ghost use Rattle.limits.specs.Limits.{head_size, settings_size, point_size, link
 ghost use Rattle.grid.specs.Grid.{read_place, place_at, on_grid};
 ghost use Rattle.drawing_spec.specs.Bytes.{number};
 ghost use Rattle.drawing_spec.specs.Read.{settings_of, link_of, point};
+ghost use Rattle.file_records.specs.Kind.{kind_of};
 ghost use Rattle.file_records.specs.Walk.{size_at, kind_at, next_at};
 ghost use Rattle.file_records.specs.Body.{settings_from, point_from, edge_from, whole_at, body_read, record_read};
 
 use limits::{
     HEAD_SIZE, KIND_LINE, KIND_LINK, KIND_SETTINGS, LINK_SIZE, POINT_SIZE, SETTINGS_SIZE,
 };
+
+// The kinds of record that document 01 has, by the number in a record's head; `Other` is any other number.
+#[derive(Clone, Copy, PartialEq, Eq)]
+pub enum Kind {
+    Settings,
+    Line,
+    Link,
+    Other,
+}
+
+impl From<u16> for Kind {
+    fn from(number: u16) -> Kind
+        ensures { result ≡ kind_of number }
+    {
+        match number {
+            KIND_SETTINGS => Kind::Settings,
+            KIND_LINE => Kind::Line,
+            KIND_LINK => Kind::Link,
+            _ => Kind::Other,
+        }
+    }
+}
 
 // A point of a link: the source's type.
 #[derive(Clone, Copy)]
@@ -57,45 +80,35 @@ pub struct Record {
     pub body: Body,
 }
 
-fn wide(byte: u8) -> u16
-    ensures { (result ≡ byte) × (result < 256) }
-{
-    byte as u16
-}
-
-// The numbers in 1, 2, 4 and 8 bytes at a place.
-fn number1(file: &[u8], at: usize) -> u8
-    requires { at + 1 ≤ length file.now }
-    ensures { result ≡ number 1 (drop at file.now) }
-{
-    file[at]
-}
-
+// The numbers in 2, 4 and 8 bytes at a place.
 fn number2(file: &[u8], at: usize) -> u16
     requires { at + 2 ≤ length file.now }
     ensures { result ≡ number 2 (drop at file.now) }
 {
-    let low = wide(file[at]);
-    let high = wide(file[at + 1]);
-    low + 256 * high
+    u16::from_le_bytes([file[at], file[at + 1]])
 }
 
 fn number4(file: &[u8], at: usize) -> u32
     requires { at + 4 ≤ length file.now }
     ensures { result ≡ number 4 (drop at file.now) }
 {
-    let low = number2(file, at);
-    let high = number2(file, at + 2);
-    low as u32 + 65536 * (high as u32)
+    u32::from_le_bytes([file[at], file[at + 1], file[at + 2], file[at + 3]])
 }
 
 fn number8(file: &[u8], at: usize) -> u64
     requires { at + 8 ≤ length file.now }
     ensures { result ≡ number 8 (drop at file.now) }
 {
-    let low = number4(file, at);
-    let high = number4(file, at + 4);
-    low as u64 + 4_294_967_296 * (high as u64)
+    u64::from_le_bytes([
+        file[at],
+        file[at + 1],
+        file[at + 2],
+        file[at + 3],
+        file[at + 4],
+        file[at + 5],
+        file[at + 6],
+        file[at + 7],
+    ])
 }
 
 // The length of the body and the kind of the record at a place that has room for a head.
@@ -103,15 +116,14 @@ pub fn size_at(file: &[u8], at: usize) -> usize
     requires { at + head_size ≤ length file.now }
     ensures { result ≡ size_at file.now at }
 {
-    let size = number4(file, at);
-    size as usize
+    number4(file, at) as usize
 }
 
-pub fn kind_at(file: &[u8], at: usize) -> u16
+pub fn kind_at(file: &[u8], at: usize) -> Kind
     requires { at + head_size ≤ length file.now }
-    ensures { result ≡ kind_at file.now at }
+    ensures { result ≡ kind_of (kind_at file.now at) }
 {
-    number2(file, at + 4)
+    Kind::from(number2(file, at + 4))
 }
 
 // The place that the coordinate at `at` stands for, and nowhere where it is off the grid; whether it is on it.
@@ -133,24 +145,21 @@ fn point_at(file: &[u8], at: usize) -> Point
     requires { at + point_size ≤ length file.now }
     ensures { result ≡ point_from (point (drop at file.now)) }
 {
-    let x = grid::coordinate(place_at(file, at));
-    let y = grid::coordinate(place_at(file, at + 8));
-    Point { x, y }
+    Point {
+        x: grid::coordinate(place_at(file, at)),
+        y: grid::coordinate(place_at(file, at + 8)),
+    }
 }
 
 fn settings_at(file: &[u8], at: usize) -> Settings
     requires { at + settings_size ≤ length file.now }
     ensures { result ≡ settings_from (settings_of (drop at file.now)) }
 {
-    let width = number4(file, at);
-    let height = number4(file, at + 4);
-    let pairing = number1(file, at + 8);
-    let flags = number1(file, at + 9);
     Settings {
-        width,
-        height,
-        pairing,
-        flags,
+        width: number4(file, at),
+        height: number4(file, at + 4),
+        pairing: file[at + 8],
+        flags: file[at + 9],
     }
 }
 
@@ -158,40 +167,24 @@ fn edge_at(file: &[u8], at: usize) -> MstEdge
     requires { at + link_size ≤ length file.now }
     ensures { result ≡ edge_from (link_of (drop at file.now)) }
 {
-    let poly_a = number2(file, at);
-    let seg_a = number2(file, at + 2);
-    let poly_b = number2(file, at + 4);
-    let seg_b = number2(file, at + 6);
-    let point_a = point_at(file, at + 8);
-    let point_b = point_at(file, at + 24);
     MstEdge {
-        poly_a,
-        seg_a,
-        poly_b,
-        seg_b,
-        point_a,
-        point_b,
+        poly_a: number2(file, at),
+        seg_a: number2(file, at + 2),
+        poly_b: number2(file, at + 4),
+        seg_b: number2(file, at + 6),
+        point_a: point_at(file, at + 8),
+        point_b: point_at(file, at + 24),
     }
 }
 
 // Whether a record stands whole at a place.
+#[tactic(auto, using(std::proofs::lemmas::Bool::Decides::nat_tests))]
 pub fn whole_at(file: &[u8], at: usize) -> bool
     ensures { result ≡ whole_at file.now at }
 {
-    let past_end = file.len() < at;
-    if past_end {
-        return false;
-    }
-    let left = file.len() - at;
-    let short = left < HEAD_SIZE;
-    if short {
-        return false;
-    }
-    let size = size_at(file, at);
-    if left - HEAD_SIZE < size {
-        return false;
-    }
-    true
+    at <= file.len()
+        && HEAD_SIZE <= file.len() - at
+        && size_at(file, at) <= file.len() - at - HEAD_SIZE
 }
 
 // What a record that stands whole holds, by its kind and its length.
@@ -199,41 +192,24 @@ fn body_at(file: &[u8], at: usize) -> Body
     requires { next_at file.now at ≤ length file.now }
     ensures { result ≡ body_read file.now at }
 {
-    let kind = kind_at(file, at);
     let size = size_at(file, at);
     let start = at + HEAD_SIZE;
-    if kind == KIND_SETTINGS {
-        if size == SETTINGS_SIZE {
-            return Body::Settings(settings_at(file, start));
-        }
-        return Body::Other;
+    match kind_at(file, at) {
+        Kind::Settings if size == SETTINGS_SIZE => Body::Settings(settings_at(file, start)),
+        Kind::Line if size % POINT_SIZE == 0 => Body::Line(size / POINT_SIZE),
+        Kind::Link if size == LINK_SIZE => Body::Link(edge_at(file, start)),
+        _ => Body::Other,
     }
-    if kind == KIND_LINE {
-        if size % POINT_SIZE == 0 {
-            return Body::Line(size / POINT_SIZE);
-        }
-        return Body::Other;
-    }
-    if kind == KIND_LINK {
-        if size == LINK_SIZE {
-            return Body::Link(edge_at(file, start));
-        }
-        return Body::Other;
-    }
-    Body::Other
 }
 
 // The record at a place of the file, whatever stands there.
 pub fn record_at(file: &[u8], at: usize) -> Record
     ensures { result ≡ record_read file.now at }
 {
-    if whole_at(file, at) {
-        let body = body_at(file, at);
-        Record { at, body }
+    let body = if whole_at(file, at) {
+        body_at(file, at)
     } else {
-        Record {
-            at,
-            body: Body::Other,
-        }
-    }
+        Body::Other
+    };
+    Record { at, body }
 }

@@ -5,7 +5,6 @@ use Prim.Native.Nat.{ℕ, ◌-◌, ◌≤◌}
 use native.Mathlib.Omega.{arith}
 use lib.ListN.{length, replicate}
 use Rattle.limits.specs.Limits.{most_lines, most_links}
-use Rattle.drawing_spec.specs.Drawing as drawn
 use Rattle.graph_spec.specs.Graph.{build_graph}
 use Rattle.graph_nodes.specs.Table.{Table, no_nodes}
 use Rattle.graph_adjacency.specs.Lists.{Adjacency, no_edges}
@@ -19,9 +18,10 @@ use Rattle.graph_moves.specs.Moves.{Move}
 use Rattle.graph_splits.specs.Points.{Points, points, MeasurablePoints}
 use Rattle.graph_strokes.specs.Step.{Traced, traced}
 use Rattle.graph_chain.specs.Along.{traced_along}
-use Rattle.graph_line.specs.Lines.{Filing, filing, anywhere, Ready}
+use Rattle.graph_line.specs.Lines.{Filing, filing_from, anywhere, Ready}
 use Rattle.graph_lines.specs.All.{StartsInside}
-use Rattle.graph_filing.specs.Stored.{store, store_links, LinksFit}
+use Rattle.graph_segment_ends.specs.Ends.{Store}
+use Rattle.graph_filing.specs.Stored.{store_links, LinksFit}
 use Rattle.graph_filed.proofs.Ends.{no_store, filed_all_lem, low_places}
 use Rattle.graph_filed.proofs.Starts.{starts_of, points_of, starts_inside, links_fit_known}
 use Rattle.graph.specs.Whole.{moves_in}
@@ -90,17 +90,17 @@ view_moves v = moves_in v.filing_is v.points_is v.starts_is v.lines_is v.links_i
 abbrev view_state : View → Traced
 view_state v = traced v.table_is v.edges_is 0 0 0
 
-module _ (d : Drawing) (S : Sound d) (hs ns xs ys : List ℕ) (e : store hs ns xs ys ≡ store_links d.starts d.links d.link_count 0 no_store)
+module _ (d : Drawing) (S : Sound d) (f : Store) (e : f ≡ store_links d.starts d.links d.link_count 0 no_store)
     (t : Table) (a : Adjacency) (et : t ≡ no_nodes) (ea : a ≡ no_edges) where
-  filing_same : filing (points xs ys) ns hs ≡ filing_in (drawing_from d)
+  filing_same : filing_from f ≡ filing_in (drawing_from d)
   filing_same =
       let b = drawing_from d in
-      let e' : store hs ns xs ys ≡ store_links (starts_of b.lines) d.links (length b.links) 0 no_store =
+      let e' : f ≡ store_links (starts_of b.lines) d.links (length b.links) 0 no_store =
       e ∙ ap (λ (s : List ℕ). store_links s d.links d.link_count 0 no_store) (starts_are d S) ∙ ap (λ (n : ℕ). store_links (starts_of b.lines) d.links n 0 no_store) (links_count d S) in
-      filed_all_lem (starts_of b.lines) b.links d.links (replicate (most_links - length (map edge_from b.links)) no_link) hs ns xs ys (links_are d S) S.links_on (ends_few b S.counts S.links_fit_known) e'
+      filed_all_lem (starts_of b.lines) b.links d.links (replicate (most_links - length (map edge_from b.links)) no_link) f (links_are d S) S.links_on (ends_few b S.counts S.links_fit_known) e'
 
   one : View
-  one = view (filing (points xs ys) ns hs) (points d.xs d.ys) d.starts d.lines d.link_count t a
+  one = view (filing_from f) (points d.xs d.ys) d.starts d.lines d.link_count t a
 
   two : View
   two = let b = drawing_from d in view (filing_in b) (points_of b.lines) (starts_of b.lines) (length b.lines) (length b.links) no_nodes no_edges
@@ -109,7 +109,6 @@ module _ (d : Drawing) (S : Sound d) (hs ns xs ys : List ℕ) (e : store hs ns x
   unfolding one two
   same_view =
       let b = drawing_from d in
-      let f = filing (points xs ys) ns hs in
       let p = points d.xs d.ys in
       ap (λ (x : Filing). view x p d.starts d.lines d.link_count t a) filing_same
       ∙ ap (λ (x : Points). view (filing_in b) x d.starts d.lines d.link_count t a) (points_are d S)
@@ -119,14 +118,14 @@ module _ (d : Drawing) (S : Sound d) (hs ns xs ys : List ℕ) (e : store hs ns x
       ∙ ap (λ (x : Table). view (filing_in b) (points_of b.lines) (starts_of b.lines) (length b.lines) (length b.links) x a) et
       ∙ ap (λ (x : Adjacency). view (filing_in b) (points_of b.lines) (starts_of b.lines) (length b.lines) (length b.links) no_nodes x) ea
 
-  pub low_held : MeasurablePoints (points xs ys)
-  low_held = subst (λ (f : Filing). MeasurablePoints f.ends) (sym filing_same) (low_places (drawing_from d).links S.links_on)
+  pub low_held : MeasurablePoints (points f.xs f.ys)
+  low_held = subst (λ (k : Filing). MeasurablePoints k.ends) (sym filing_same) (low_places (drawing_from d).links S.links_on)
 
-  pub ready_held : Ready (moves_in (filing (points xs ys) ns hs) (points d.xs d.ys) d.starts d.lines d.link_count) (traced t a 0 0 0)
+  pub ready_held : Ready (moves_in (filing_from f) (points d.xs d.ys) d.starts d.lines d.link_count) (traced t a 0 0 0)
   unfolding one two
   ready_held = subst (λ (v : View). Ready (view_moves v) (view_state v)) (sym same_view) (all_ready (drawing_from d) S.counts S.links_fit_known S.lines_on S.links_on)
 
-  pub built_held : (s : Traced) → s ≡ traced_along anywhere (moves_in (filing (points xs ys) ns hs) (points d.xs d.ys) d.starts d.lines d.link_count) (traced t a 0 0 0)
+  pub built_held : (s : Traced) → s ≡ traced_along anywhere (moves_in (filing_from f) (points d.xs d.ys) d.starts d.lines d.link_count) (traced t a 0 0 0)
       → Built (build_graph (drawing_from d)) s.node_count s.edge_count s.table.xs s.table.ys s.edges
   unfolding one two
   built_held s h = all_built (drawing_from d) S.counts S.links_fit_known S.lines_on S.links_on s (h ∙ ap (λ (v : View). traced_along anywhere (view_moves v) (view_state v)) same_view)

@@ -10,19 +10,19 @@ use Rattle.drawing_spec.proofs.OnGrid.{lines_on, links_on}
 use Rattle.drawing_spec.specs.Read.{links_fit, records_of, drawing_of}
 use Rattle.drawing_spec.specs.Accepted.{Counts}
 use Rattle.drawing_spec.proofs.Accepted.{passed_counts}
-use Rattle.file.specs.declared.Verdict.TheVariants.{Accepted}
 use Rattle.file_drawing.specs.Held.{drawing_held}
-use Rattle.file.specs.Reading.{reading_of}
+use Rattle.file_drawing.specs.declared.Drawing.{Drawing}
+use Rattle.file.specs.Reading.{Accepted}
 use Rattle.file.proofs.ReadingLaws.{taken}
 use Rattle.file_drawing.specs.Back.{drawing_from}
 use Rattle.file.proofs.ReadingLaws.{accepted_drawing}
 use Rattle.graph.specs.Sound.{Sound}
 
-pub accepted_sound : (file : List ℕ) → (reading_of file).verdict ≡ Accepted → Sound (reading_of file).drawing
-accepted_sound file h =
-    let t = taken file h in
+pub accepted_sound : (file : List ℕ) (d : Drawing) → Accepted file d → Sound d
+accepted_sound file d a =
+    let t = taken file d a in
     let rs = records_of file in
-    let is : drawing_of rs ≡ drawing_from (reading_of file).drawing = sym (accepted_drawing file h) in
+    let is : drawing_of rs ≡ drawing_from d = sym (accepted_drawing file d a) in
     record {
       held = t.drawing_is ∙ ap drawing_held is;
       counts = subst Counts is (passed_counts file t.passes);

@@ -1,7 +1,6 @@
 -- What is known of an accepted file's arrays: they hold the drawing that they say; it has no more lines, points and links than check 6 allows, the ends of its links
 -- pass check 8, and all its points lie on the grid.
 use Rattle.std.specs.Prelude.{◌≡◌, true}
-use Rattle.drawing_spec.specs.Drawing as drawn
 use Rattle.lists.specs.Members.{All}
 use Rattle.drawing_spec.specs.OnGrid.{OnGrid, AtEnds}
 use Rattle.drawing_spec.specs.Read.{links_fit}

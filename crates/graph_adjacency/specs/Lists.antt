@@ -3,15 +3,11 @@ use Rattle.std.specs.Prelude.{ℕ, suc, ◌+◌, ◌-◌, ◌*◌, List, [], ◌
 use Rattle.std.specs.Float.{nan, fin}
 use Rattle.limits.specs.Limits.{most_nodes, edge_room, arc_room}
 use Rattle.graph_spec.specs.Graph.{Edge, Arc}
+use Rattle.graph_adjacency.specs.declared.Adjacency as code
 
--- An arc is an edge seen from one of its ends. The edge e has the arc e + 1 from its second end, and e + edge_room + 1 from its first; 0 is no arc.
--- `ends` has at k - 1 the node that the arc k leads to: so the edge's first end at e, its second at e + edge_room.
--- `next` has at k - 1 the arc of the next older edge that has the same node as the same end, and `heads` has the newest such arc: at v by first ends, at v + most_nodes by second ends.
-pub record Adjacency : Type 0 where
-  pub ends : List ℕ
-  pub weights : List Float
-  pub next : List ℕ
-  pub heads : List ℕ
+-- The edges of a graph in flat lists, as the code holds them.
+abbrev pub Adjacency : Type 0
+Adjacency = code.Adjacency
 
 abbrev pub adjacency : List ℕ → List Float → List ℕ → List ℕ → Adjacency
 adjacency es ws ns hs = record { ends = es; weights = ws; next = ns; heads = hs }

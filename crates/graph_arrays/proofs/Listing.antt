@@ -1,4 +1,4 @@
--- Some of the nodes listed in a cleared array, in ascending order, one behind the other: those that pass a test.
+-- Some of the nodes listed in an array, in ascending order, one behind the other: those that pass a test. What the array held before is written over.
 use mathlib.Core.Path.{◌≡◌, sym, ap, ap₂, subst, ◌∙◌}
 use mathlib.Core.Bool.{Bool, true, false}
 use mathlib.Core.List.{List, [], ◌∷◌, ◌++◌}
@@ -6,7 +6,7 @@ use Prim.Native.Nat.{ℕ, zero, suc, ◌+◌, ◌-◌, ◌≤◌, ◌<◌}
 use native.Mathlib.Nat.{zero-add}
 use native.Mathlib.Numerals.{add-one}
 use native.Mathlib.Omega.{arith}
-use lib.ListN.{length, set, take, drop, replicate, length-replicate}
+use lib.ListN.{length, set, take, drop}
 use lib.Seq.{sets, sets-eq, take-append_seam}
 use Rattle.graph_arrays.specs.Arrays.{Front}
 
@@ -16,12 +16,12 @@ pub record Chosen (from : ℕ → ℕ → List ℕ) (test : ℕ → Bool) : Type
   pub step : (k v : ℕ) → from (suc k) v ≡ elim (test v) [ true ↦ v ∷ from k (suc v) | false ↦ from k (suc v) ]
 
 -- What is left, from the node v on, listed behind what is listed, gives the list of all.
-pub record Listing (from : ℕ → ℕ → List ℕ) (room n v : ℕ) (array : List ℕ) (count : ℕ) : Type 0 where
-  pub is : sets array count (from (n - v) v) ≡ sets (replicate room 0) 0 (from n 0)
+pub record Listing (from : ℕ → ℕ → List ℕ) (before : List ℕ) (n v : ℕ) (array : List ℕ) (count : ℕ) : Type 0 where
+  pub is : sets array count (from (n - v) v) ≡ sets before 0 (from n 0)
   pub counted : count + length (from (n - v) v) ≡ length (from n 0)
 
-pub listing_start : (from : ℕ → ℕ → List ℕ) (room n : ℕ) → Listing from room n 0 (replicate room 0) 0
-listing_start from room n =
+pub listing_start : (from : ℕ → ℕ → List ℕ) (before : List ℕ) (n : ℕ) → Listing from before n 0 before 0
+listing_start from before n =
     let all : n - 0 ≡ n = omega arith in
     record { is = rw all; counted = rw all (zero-add _) }
 
@@ -38,7 +38,7 @@ module _ (from : ℕ → ℕ → List ℕ) (test : ℕ → Bool) (C : Chosen fro
   pub chosen_few : (n : ℕ) → length (from n 0) ≤ n
   chosen_few n = from_few n 0
 
-  module _ (room n v : ℕ) (array array' : List ℕ) (count count' : ℕ) (h : v < n) (l : Listing from room n v array count) where
+  module _ (before : List ℕ) (n v : ℕ) (array array' : List ℕ) (count count' : ℕ) (h : v < n) (l : Listing from before n v array count) where
     left : (t : Bool) → test v ≡ t → from (n - v) v ≡ elim t [ true ↦ v ∷ from (n - (v + 1)) (v + 1) | false ↦ from (n - (v + 1)) (v + 1) ]
     left t e =
         let one_less : n - v ≡ suc (n - (v + 1)) = omega arith in
@@ -46,7 +46,7 @@ module _ (from : ℕ → ℕ → List ℕ) (test : ℕ → Bool) (C : Chosen fro
         ∙ ap₂ (λ (b : Bool) (u : ℕ). elim b [ true ↦ v ∷ from (n - (v + 1)) u | false ↦ from (n - (v + 1)) u ]) e (sym (add-one v))
 
     -- the node v is one of them
-    pub listing_one : array' ≡ set array count v → count' ≡ count + 1 → test v ≡ true → Listing from room n (v + 1) array' count'
+    pub listing_one : array' ≡ set array count v → count' ≡ count + 1 → test v ≡ true → Listing from before n (v + 1) array' count'
     listing_one ea ec one =
         let rest = from (n - (v + 1)) (v + 1) in
         rw (ea, ec) (record {
@@ -55,19 +55,18 @@ module _ (from : ℕ → ℕ → List ℕ) (test : ℕ → Bool) (C : Chosen fro
         })
 
     -- or not
-    pub listing_none : array' ≡ array → count' ≡ count → test v ≡ false → Listing from room n (v + 1) array' count'
+    pub listing_none : array' ≡ array → count' ≡ count → test v ≡ false → Listing from before n (v + 1) array' count'
     listing_none ea ec none =
         rw (ea, ec) (record {
           is = sym (ap (λ (vs : List ℕ). sets array count vs) (left false none)) ∙ l.is;
           counted = omega (arith, l.counted, ap (λ (vs : List ℕ). length vs) (left false none));
         })
 
-  pub listing_end : (room n v : ℕ) (array : List ℕ) (count : ℕ) → n ≤ room → n ≤ v → Listing from room n v array count → Front (from n 0) array count
-  listing_end room n v array count few h l =
+  pub listing_end : (before : List ℕ) (n v : ℕ) (array : List ℕ) (count : ℕ) → n ≤ length before → n ≤ v → Listing from before n v array count → Front (from n 0) array count
+  listing_end before n v array count few h l =
       let over : n - v ≡ 0 = omega arith in
       let e = ap (λ (k : ℕ). from k v) over ∙ C.nil v in
-      let cleared : List ℕ = replicate room 0 in
-      let all : array ≡ from n 0 ++ drop (0 + length (from n 0)) cleared =
-      sym (ap (λ (us : List ℕ). sets array count us) e) ∙ l.is ∙ sets-eq (from n 0) cleared 0 (omega (arith, chosen_few n, length-replicate {A = ℕ} room 0)) in
+      let all : array ≡ from n 0 ++ drop (0 + length (from n 0)) before =
+      sym (ap (λ (us : List ℕ). sets array count us) e) ∙ l.is ∙ sets-eq (from n 0) before 0 (omega (arith, chosen_few n)) in
       let counts : count ≡ length (from n 0) = omega (arith, l.counted, ap (λ (us : List ℕ). length us) e) in
-      record { counts = counts; are = ap₂ take counts all ∙ take-append_seam (from n 0) (drop (0 + length (from n 0)) cleared) }
+      record { counts = counts; are = ap₂ take counts all ∙ take-append_seam (from n 0) (drop (0 + length (from n 0)) before) }

@@ -1,7 +1,7 @@
 -- The graph that flat arrays hold, read off them: the node v is the point at xs[v], ys[v] (crates/graph_nodes), and the edge e joins
--- ends[e] and ends[e + edgeRoom] and weighs weights[e] (crates/graph_adjacency). Every contract of the planner's code that has such
+-- ends[e] and ends[e + edge_room] and weighs weights[e] (crates/graph_adjacency). Every contract of the planner's code that has such
 -- arrays says by these functions and records what they hold.
-use Rattle.std.specs.Prelude.{◌≡◌, List, ℕ, ◌+◌, ◌*◌, ◌≤◌, ◌<◌, length, get_or, take}
+use Rattle.std.specs.Prelude.{◌≡◌, List, ℕ, ◌+◌, ◌*◌, ◌≤◌, length, get_or, take}
 use Rattle.std.specs.Float.{nan}
 use Rattle.limits.specs.Limits.{most_nodes, most_edges, edge_room}
 use Rattle.grid.specs.Grid.{origin}

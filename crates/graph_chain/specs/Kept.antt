@@ -1,5 +1,5 @@
 -- The points of a chain read from the sorted split points in flat lists.
-use Rattle.std.specs.Prelude.{List, [], ◌∷◌, ◌++◌, ℕ, ◌+◌}
+use Rattle.std.specs.Prelude.{List, [], ◌∷◌, ◌++◌, ℕ}
 use Rattle.drawing_spec.specs.Drawing.{Point}
 use Rattle.graph_spec.specs.Chain.{inner, changes}
 use Rattle.file_drawing.specs.Back.{points_back}

@@ -5,53 +5,27 @@ ghost use Rattle.std.specs.Prelude.{◌≡◌, ◌≤◌};
 ghost use Rattle.limits.specs.Limits.{most_splits};
 ghost use Rattle.graph_splits.specs.Next.{at};
 ghost use Rattle.graph_moves.specs.Moves.{draw_all};
-ghost use Rattle.graph_strokes.specs.Step.{traced_in};
 ghost use Rattle.graph_chain.specs.Kept.{chain_in};
 ghost use Rattle.graph_chain.specs.Along.{traced_along, Traceable};
 
-use graph_nodes::BUCKETS;
-use graph_strokes::Trail;
-use limits::{ARC_ROOM, EDGE_ROOM, MOST_NODES, MOST_SPLITS};
+use graph_splits::Buffer;
+use graph_strokes::Traced;
+use grid::Point;
 
-// From a, whose node is the trail's, along the split points that stay, of which there are `count` sorted
+// From a, whose node is the one last come to, along the split points that stay, of which there are `count` sorted
 // by distance, to b.
-pub fn trace_chain(
-    xs: &mut [u32; MOST_NODES],
-    ys: &mut [u32; MOST_NODES],
-    older: &mut [u16; MOST_NODES],
-    buckets: &mut [u16; BUCKETS],
-    ends: &mut [u16; ARC_ROOM],
-    weights: &mut [f64; EDGE_ROOM],
-    next: &mut [u16; ARC_ROOM],
-    heads: &mut [u16; 2 * MOST_NODES],
-    sx: &[u32; MOST_SPLITS],
-    sy: &[u32; MOST_SPLITS],
-    count: usize,
-    from: Trail,
-    ax: u32,
-    ay: u32,
-    bx: u32,
-    by: u32,
-) -> Trail
+pub fn trace_chain(traced: &mut Traced, splits: &Buffer, count: usize, a: Point, b: Point)
     requires few { count ≤ most_splits }
-    requires room { Traceable (at ax ay) (draw_all (chain_in sx.now sy.now count (at ax ay) (at bx by))) (traced_in xs.old ys.old older.old buckets.old ends.old weights.old next.old heads.old from) }
-    ensures { traced_in xs.new ys.new older.new buckets.new ends.new weights.new next.new heads.new result ≡ traced_along (at ax ay) (draw_all (chain_in sx.now sy.now count (at ax ay) (at bx by))) (traced_in xs.old ys.old older.old buckets.old ends.old weights.old next.old heads.old from) }
+    requires room { Traceable (at a.x a.y) (draw_all (chain_in splits.now.xs splits.now.ys count (at a.x a.y) (at b.x b.y))) traced.old }
+    ensures { traced.new ≡ traced_along (at a.x a.y) (draw_all (chain_in splits.now.xs splits.now.ys count (at a.x a.y) (at b.x b.y))) traced.old }
 {
-    let mut t = from;
-    let mut px = ax;
-    let mut py = ay;
-    let mut j = graph_splits::next_split(sx, sy, count, 0, ax, ay, bx, by, px, py);
-    while j < count {
-        let qx = sx[j];
-        let qy = sy[j];
-        t = graph_strokes::step(
-            xs, ys, older, buckets, ends, weights, next, heads, t, px, py, qx, qy,
-        );
-        px = qx;
-        py = qy;
-        j = graph_splits::next_split(sx, sy, count, j + 1, ax, ay, bx, by, px, py);
+    let mut p = a;
+    let mut next = 0;
+    while let Some(j) = splits.next_split(count, next, a, b, p) {
+        let q = splits.point(j);
+        traced.step(p, q);
+        p = q;
+        next = j + 1;
     }
-    graph_strokes::step(
-        xs, ys, older, buckets, ends, weights, next, heads, t, px, py, bx, by,
-    )
+    traced.step(p, b);
 }

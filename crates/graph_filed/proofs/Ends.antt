@@ -13,7 +13,7 @@ use Rattle.lists.specs.Members.{All}
 use Rattle.lists.proofs.Elements.{get_d_same}
 use Rattle.drawing_spec.specs.OnGrid.{OnGrid, AtEnds}
 use Rattle.grid.specs.Grid.{place_of, coordinate, place_at}
-use Rattle.graph_segment_ends.specs.Ends.{filed}
+use Rattle.graph_segment_ends.specs.Ends.{filed, Store, with_filed}
 use Rattle.graph_segment_ends.proofs.Ends.{filed_all, no_ends}
 use Rattle.graph_segment_ends.proofs.Splits.{ends_of}
 use Rattle.file_records.specs.declared.MstEdge.{MstEdge}
@@ -23,9 +23,9 @@ use Rattle.file_drawing.specs.Stores.{padded}
 use Rattle.file_drawing.proofs.Stores.{sets_padded}
 use Rattle.file_drawing.specs.Back.{point_back}
 use Rattle.graph_splits.specs.Points.{Points, points, MeasurablePoints}
-use Rattle.graph_line.specs.Lines.{Filing, filing}
+use Rattle.graph_line.specs.Lines.{Filing, filing, filing_from}
 use Rattle.drawing_spec.proofs.OnGrid.{place_back}
-use Rattle.graph_filing.specs.Stored.{Store, store, with_filed, store_end, store_link, store_links, place_in}
+use Rattle.graph_filing.specs.Stored.{store_end, store_link, store_links, place_in}
 
 -- ---- ends
 
@@ -87,16 +87,13 @@ places_of es = points (padded most_splits 0 (map end_x es)) (padded most_splits 
 abbrev pub filing_of : List ℕ → List End → Filing
 filing_of starts es = filing (places_of es) (filed_all 0 (map (number starts) es) no_ends).next (filed_all 0 (map (number starts) es) no_ends).heads
 
-abbrev to_filing : Store → Filing
-to_filing t = filing (points t.xs t.ys) t.next t.newest
-
-pub filed_all_lem : (starts : List ℕ) (ks : List Link) (ms rest : List MstEdge) (hs ns xs ys : List ℕ) → ms ≡ map edge_from ks ++ rest → All (AtEnds OnGrid) ks → length (ends_of ks) ≤ most_splits
-    → store hs ns xs ys ≡ store_links starts ms (length ks) 0 no_store → filing (points xs ys) ns hs ≡ filing_of starts (ends_of ks)
-filed_all_lem starts ks ms rest hs ns xs ys e on few h =
+pub filed_all_lem : (starts : List ℕ) (ks : List Link) (ms rest : List MstEdge) (s : Store) → ms ≡ map edge_from ks ++ rest → All (AtEnds OnGrid) ks → length (ends_of ks) ≤ most_splits
+    → s ≡ store_links starts ms (length ks) 0 no_store → filing_from s ≡ filing_of starts (ends_of ks)
+filed_all_lem starts ks ms rest s e on few h =
     let es = ends_of ks in
     let all = filed_all 0 (map (number starts) es) no_ends in
     let fits : (f : End → ℕ) → sets (replicate most_splits 0) 0 (map f es) ≡ padded most_splits 0 (map f es) = λ f. sets_padded most_splits 0 (map f es) (omega (arith, length-map es f)) in
-    ap to_filing (h ∙ links_ends starts ks ms rest 0 no_store e on ∙ stored_are starts 0 es no_store)
+    ap filing_from (h ∙ links_ends starts ks ms rest 0 no_store e on ∙ stored_are starts 0 es no_store)
     ∙ ap (λ (l : List ℕ). filing (points l (sets (replicate most_splits 0) 0 (map end_y es))) all.next all.heads) (fits end_x)
     ∙ ap (λ (l : List ℕ). filing (points (padded most_splits 0 (map end_x es)) l) all.next all.heads) (fits end_y)
 

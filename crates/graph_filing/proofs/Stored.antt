@@ -5,30 +5,23 @@ use Prim.Native.Nat.{ℕ, suc, ◌+◌, ◌-◌, ◌*◌, ◌≤◌, ◌<◌}
 use native.Mathlib.Omega.{arith}
 use lib.ListN.{get_or, set}
 use Rattle.drawing_spec.specs.Drawing.{Point}
-use Rattle.graph_splits.specs.Next.{at}
-use Rattle.graph_segment_ends.specs.Ends.{Filed, filed, file_end}
+use Rattle.graph_segment_ends.specs.Ends.{filed, file_end, Store, store, with_filed}
 use Rattle.file_records.specs.declared.MstEdge.{MstEdge}
 use Rattle.file_drawing.specs.Held.{past_end}
 use Rattle.file_drawing.specs.Back.{point_back}
-use Rattle.graph_filing.specs.Stored.{Store, place_in, store, store_end, store_link, store_links, with_filed}
+use Rattle.graph_filing.specs.Stored.{place_in, store_end, store_link, store_links}
 
-pub place_is : (starts : List ℕ) (line segment i first s : ℕ) → i ≡ line → first ≡ get_or starts i 0 → s ≡ segment → first + s ≡ place_in starts line segment
-place_is starts line segment i first s hi hf hs = ap (λ (k : ℕ). k + s) (hf ∙ ap (λ (k : ℕ). get_or starts k 0) hi) ∙ ap (λ (k : ℕ). get_or starts line 0 + k) hs
-
-pub end_stored : (e g k : ℕ) (p : Point) (t : Store) (hs ns : List ℕ) → k ≡ g → filed hs ns ≡ file_end e k (filed t.newest t.next)
-    → store hs ns (set t.xs e p.x) (set t.ys e p.y) ≡ store_end e g p t
+pub end_stored : (e g k : ℕ) (p : Point) (t t' : Store) → k ≡ g → t' ≡ with_filed (file_end e k (filed t.newest t.next)) t.xs t.ys
+    → store t'.newest t'.next (set t'.xs e p.x) (set t'.ys e p.y) ≡ store_end e g p t
 unfolding store_end
-end_stored e g k p t hs ns i h =
-    ap (λ (f : Filed). with_filed f (set t.xs e p.x) (set t.ys e p.y)) h
+end_stored e g k p t t' i h =
+    ap (λ (z : Store). store z.newest z.next (set z.xs e p.x) (set z.ys e p.y)) h
     ∙ ap (λ (m : ℕ). with_filed (file_end e m (filed t.newest t.next)) (set t.xs e p.x) (set t.ys e p.y)) i
 
-pub link_stored_lem : (starts : List ℕ) (i : ℕ) (m : MstEdge) (t t₁ t₂ : Store) (ax ay bx by : ℕ)
-    → ax ≡ (point_back m.point_a).x → ay ≡ (point_back m.point_a).y → bx ≡ (point_back m.point_b).x → by ≡ (point_back m.point_b).y
-    → t₁ ≡ store_end (2 * i) (place_in starts m.poly_a m.seg_a) (at ax ay) t → t₂ ≡ store_end (2 * i + 1) (place_in starts m.poly_b m.seg_b) (at bx by) t₁ → t₂ ≡ store_link starts i m t
+pub link_stored_lem : (starts : List ℕ) (i : ℕ) (m : MstEdge) (t t₁ t₂ : Store) (a b : Point) → a ≡ point_back m.point_a → b ≡ point_back m.point_b
+    → t₁ ≡ store_end (2 * i) (place_in starts m.poly_a m.seg_a) a t → t₂ ≡ store_end (2 * i + 1) (place_in starts m.poly_b m.seg_b) b t₁ → t₂ ≡ store_link starts i m t
 unfolding store_link
-link_stored_lem starts i m t t₁ t₂ ax ay bx by hax hay hbx hby e₁ e₂ =
-    let pa : at ax ay ≡ point_back m.point_a = ap (λ (x : ℕ). at x ay) hax ∙ ap (at (point_back m.point_a).x) hay in
-    let pb : at bx by ≡ point_back m.point_b = ap (λ (x : ℕ). at x by) hbx ∙ ap (at (point_back m.point_b).x) hby in
+link_stored_lem starts i m t t₁ t₂ a b pa pb e₁ e₂ =
     let ga = place_in starts m.poly_a m.seg_a in
     let gb = place_in starts m.poly_b m.seg_b in
     e₂ ∙ ap (λ (p : Point). store_end (2 * i + 1) gb p t₁) pb ∙ ap (store_end (2 * i + 1) gb (point_back m.point_b)) (e₁ ∙ ap (λ (p : Point). store_end (2 * i) ga p t) pa)
@@ -36,9 +29,6 @@ link_stored_lem starts i m t t₁ t₂ ax ay bx by hax hay hbx hby e₁ e₂ =
 -- ---- the loop
 
 module _ (starts : List ℕ) (ms : List MstEdge) (n : ℕ) where
-  pub links_start : (t : Store) → store_links starts ms (n - 0) 0 t ≡ store_links starts ms n 0 t
-  links_start t = let none : n - 0 ≡ n = omega arith in ap (λ (m : ℕ). store_links starts ms m 0 t) none
-
   pub links_turn : (i : ℕ) (t t' r : Store) → i < n → t' ≡ store_link starts i (get_or ms i past_end) t → store_links starts ms (n - i) i t ≡ r → store_links starts ms (n - (i + 1)) (i + 1) t' ≡ r
   unfolding store_links
   links_turn i t t' r h e k =

@@ -2,24 +2,11 @@
 use Rattle.std.specs.Prelude.{List, ℕ, zero, suc, ◌+◌, ◌*◌, ◌<◌, get_or, set}
 use Rattle.limits.specs.Limits.{most_lines, most_points}
 use Rattle.drawing_spec.specs.Drawing.{Point}
-use Rattle.graph_segment_ends.specs.Ends.{Filed, filed, file_end}
+use Rattle.graph_segment_ends.specs.Ends.{filed, file_end, Store, with_filed}
 use Rattle.file_records.specs.declared.MstEdge.{MstEdge}
 use Rattle.file_drawing.specs.Held.{past_end}
 use Rattle.file_drawing.specs.Back.{point_back}
 use Rattle.graph_filing.specs.Floats.{IsCoordinate}
-
--- the newest end of each segment; of each end the next older one and its place
-pub record Store : Type 0 where
-  pub newest : List ℕ
-  pub next : List ℕ
-  pub xs : List ℕ
-  pub ys : List ℕ
-
-abbrev pub store : List ℕ → List ℕ → List ℕ → List ℕ → Store
-store hs ns xs ys = record { newest = hs; next = ns; xs = xs; ys = ys }
-
-abbrev pub with_filed : Filed → List ℕ → List ℕ → Store
-with_filed t xs ys = store t.heads t.next xs ys
 
 -- with the end e at p, of the segment g
 unfoldable pub store_end : ℕ → ℕ → Point → Store → Store

@@ -11,7 +11,7 @@ use borrow.Author.Tests.{lt-ltb, le-ltb}
 use Rattle.limits.specs.Limits.{most_splits}
 use Rattle.drawing_spec.specs.Drawing.{Point}
 use Rattle.graph_spec.specs.Chain.{squared, insert, inner, changes}
-use Rattle.graph_splits.specs.Buffer.{Buffer, buffer, inserted_split}
+use Rattle.graph_splits.specs.Buffer.{Buffer, inserted_split}
 use Rattle.graph_splits.proofs.Sorted.{Holds, holds_none, insert_holds}
 use Rattle.graph_splits.specs.Next.{at}
 use Rattle.graph_splits.specs.Points.{Points, point_in}
@@ -98,23 +98,21 @@ holds_read a b ps H =
     ap (λ (l : List ℕ). points_back (length ps) 0 l b.ys) H.xs.is ∙ ap (points_back (length ps) 0 (map px ps ++ H.xs.rest)) H.ys.is
     ∙ points_read ps 0 [] [] H.xs.rest H.ys.rest refl refl
 
-module _ (a b : Point) (k : Points) (ns : List ℕ) (e n : ℕ) (ks xs ys ks' xs' ys' : List ℕ) (S : Scratch ks xs ys)
-    (g : gathered_as n (buffer ks' xs' ys') ≡ gathered a most_splits k ns e 0 (buffer ks xs ys)) where
-  held : Sorted a k (gathered_as n (buffer ks' xs' ys')) (follow most_splits ns e) []
-  held = subst (λ (z : Gathered). Sorted a k z (follow most_splits ns e) []) (sym g)
-      (gather_follow a k ns most_splits e [] (buffer ks xs ys) (omega arith) (holds_none a (buffer ks xs ys) S.keys_long S.xs_long S.ys_long))
+module _ (a b : Point) (k : Points) (ns : List ℕ) (e n : ℕ) (d d' : Buffer) (S : Scratch d) (g : gathered_as n d' ≡ gathered a most_splits k ns e 0 d) where
+  held : Sorted a k (gathered_as n d') (follow most_splits ns e) []
+  held = subst (λ (z : Gathered). Sorted a k z (follow most_splits ns e) []) (sym g) (gather_follow a k ns most_splits e [] d (omega arith) (holds_none a d S.keys_long S.xs_long S.ys_long))
 
-  gathered_chain : chain_from k ns e a b ≡ chain_in xs' ys' n a b
+  gathered_chain : chain_from k ns e a b ≡ chain_in d'.xs d'.ys n a b
   gathered_chain =
       ap (λ (ps : List Point). changes a (inner a b ps) ++ (b ∷ []))
-      (sym (holds_read a (buffer ks' xs' ys') (sorted_from k ns e a) held.1)
-      ∙ ap (λ (m : ℕ). points_back m 0 xs' ys') (sym held.0))
+      (sym (holds_read a d' (sorted_from k ns e a) held.1)
+      ∙ ap (λ (m : ℕ). points_back m 0 d'.xs d'.ys) (sym held.0))
 
-  pub segment_ready : (s : Traced) → Traceable a (draw_all (chain_from k ns e a b)) s → Traceable a (draw_all (chain_in xs' ys' n a b)) s
+  pub segment_ready : (s : Traced) → Traceable a (draw_all (chain_from k ns e a b)) s → Traceable a (draw_all (chain_in d'.xs d'.ys n a b)) s
   segment_ready s t = subst (λ (ps : List Point). Traceable a (draw_all ps) s) gathered_chain t
 
-  pub segment_drawn : (s r : Traced) → r ≡ traced_along a (draw_all (chain_in xs' ys' n a b)) s → r ≡ traced_along a (draw_all (chain_from k ns e a b)) s
+  pub segment_drawn : (s r : Traced) → r ≡ traced_along a (draw_all (chain_in d'.xs d'.ys n a b)) s → r ≡ traced_along a (draw_all (chain_from k ns e a b)) s
   segment_drawn s r h = h ∙ ap (λ (ps : List Point). traced_along a (draw_all ps) s) (sym gathered_chain)
 
-  pub gathered_scratch : Scratch ks' xs' ys'
+  pub gathered_scratch : Scratch d'
   gathered_scratch = record { keys_long = held.1.keys.size; xs_long = held.1.xs.size; ys_long = held.1.ys.size }

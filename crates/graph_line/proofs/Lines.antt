@@ -53,8 +53,8 @@ line_anew f ps first stop = go (ltb first stop)
     go true = tt
     go false = tt
 
-pub ready_first : (f : Filing) (ps : Points) (first stop : ℕ) (s : Traced) → first < stop → Ready (line_in f ps first stop) s → NodeReady (point_in ps first) s.node_count s.table
-ready_first f ps first stop s h r = begin_ready r.place (point_in ps first) (segments_from f ps stop first) s (subst (λ (ms : List Move). Traceable r.place ms s) (line_some f ps first stop h) r.traceable)
+pub ready_first : (f : Filing) (ps : Points) (first stop : ℕ) (s : Traced) (p : Point) → first < stop → p ≡ point_in ps first → Ready (line_in f ps first stop) s → NodeReady p s.node_count s.table
+ready_first f ps first stop s p h e r = subst (λ (q : Point). NodeReady q s.node_count s.table) (sym e) (begin_ready r.place (point_in ps first) (segments_from f ps stop first) s (subst (λ (ms : List Move). Traceable r.place ms s) (line_some f ps first stop h) r.traceable))
 
 pub ready_front : (ms ks : List Move) (s : Traced) → Ready (ms ++ ks) s → Ready ms s
 ready_front ms ks s r = record { place = r.place; traceable = traceable_front r.place ms ks s r.traceable }
@@ -117,30 +117,33 @@ module _ (f : Filing) (ps : Points) (stop : ℕ) where
   line_answer first s s' r h e k = k ∙ ap (traced_along (point_in ps first) (segments_from f ps stop first)) e ∙ sym (ap (λ (ks : List Move). traced_along anywhere ks s) (line_some f ps first stop h))
 
   module _ (g : ℕ) (s r : Traced) (o : OnLine f ps stop g s r) where
-    -- the segment from here, whose newest end is e
-    module _ (h : g + 1 < stop) (e : ℕ) (is : e ≡ get_or f.newest g 0) where
-      own_is : draw_all (chains_of f g (point_in ps g) (point_in ps (g + 1))) ≡ draw_all (chain_from f.ends f.next e (point_in ps g) (point_in ps (g + 1)))
-      own_is = ap (λ (k : ℕ). draw_all (chain_from f.ends f.next k (point_in ps g) (point_in ps (g + 1)))) (sym is)
+    -- the segment from here, from a to b, whose newest end is e
+    module _ (h : g + 1 < stop) (e : ℕ) (is : e ≡ get_or f.newest g 0) (a b : Point) (start_is : a ≡ point_in ps g) (end_is : b ≡ point_in ps (g + 1)) where
+      own_is : draw_all (chains_of f g (point_in ps g) (point_in ps (g + 1))) ≡ draw_all (chain_from f.ends f.next e a b)
+      own_is =
+          ap (λ (k : ℕ). draw_all (chain_from f.ends f.next k (point_in ps g) (point_in ps (g + 1)))) (sym is)
+          ∙ ap (λ (p : Point). draw_all (chain_from f.ends f.next e p (point_in ps (g + 1)))) (sym start_is) ∙ ap (λ (p : Point). draw_all (chain_from f.ends f.next e a p)) (sym end_is)
 
-      pub next_ready : Traceable (point_in ps g) (draw_all (chain_from f.ends f.next e (point_in ps g) (point_in ps (g + 1)))) s
+      pub next_ready : Traceable a (draw_all (chain_from f.ends f.next e a b)) s
       next_ready =
-          subst (λ (ms : List Move). Traceable (point_in ps g) ms s) own_is
+          subst (λ (p : Point). Traceable p (draw_all (chain_from f.ends f.next e a b)) s) (sym start_is)
+          (subst (λ (ms : List Move). Traceable (point_in ps g) ms s) own_is
           (traceable_front (point_in ps g) (draw_all (chains_of f g (point_in ps g) (point_in ps (g + 1)))) (segments_from f ps stop (g + 1)) s
-          (subst (λ (ms : List Move). Traceable (point_in ps g) ms s) (segments_one g h) o.traceable))
+          (subst (λ (ms : List Move). Traceable (point_in ps g) ms s) (segments_one g h) o.traceable)))
 
-      pub next_drawn : (s' : Traced) → s' ≡ traced_along (point_in ps g) (draw_all (chain_from f.ends f.next e (point_in ps g) (point_in ps (g + 1)))) s → OnLine f ps stop (g + 1) s' r
+      pub next_drawn : (s' : Traced) → s' ≡ traced_along a (draw_all (chain_from f.ends f.next e a b)) s → OnLine f ps stop (g + 1) s' r
       next_drawn s' d =
-          let a = point_in ps g in
-          let b = point_in ps (g + 1) in
-          let own = draw_all (chains_of f g a b) in
+          let p = point_in ps g in
+          let q = point_in ps (g + 1) in
+          let own = draw_all (chains_of f g p q) in
           let rest = segments_from f ps stop (g + 1) in
-          let d' : s' ≡ traced_along a own s = d ∙ ap (λ (ms : List Move). traced_along a ms s) (sym own_is) in
-          let t : Traceable (end_of a own) rest (traced_along a own s) = traceable_back a own rest s (subst (λ (ms : List Move). Traceable a ms s) (segments_one g h) o.traceable) in
+          let d' : s' ≡ traced_along p own s = d ∙ ap (λ (ms : List Move). traced_along a ms s) (sym own_is) ∙ ap (λ (z : Point). traced_along z own s) start_is in
+          let t : Traceable (end_of p own) rest (traced_along p own s) = traceable_back p own rest s (subst (λ (ms : List Move). Traceable p ms s) (segments_one g h) o.traceable) in
           record {
             inside = h;
-            traceable = subst (Traceable b rest) (sym d') (subst (λ (p : Point). Traceable p rest (traced_along a own s)) (chain_ends g a b) t);
-            answer = ap (traced_along b rest) d' ∙ ap (λ (p : Point). traced_along p rest (traced_along a own s)) (sym (chain_ends g a b))
-                ∙ sym (traced_append a own rest s) ∙ sym (ap (λ (ms : List Move). traced_along a ms s) (segments_one g h)) ∙ o.answer;
+            traceable = subst (Traceable q rest) (sym d') (subst (λ (z : Point). Traceable z rest (traced_along p own s)) (chain_ends g p q) t);
+            answer = ap (traced_along q rest) d' ∙ ap (λ (z : Point). traced_along z rest (traced_along p own s)) (sym (chain_ends g p q))
+                ∙ sym (traced_append p own rest s) ∙ sym (ap (λ (ms : List Move). traced_along p ms s) (segments_one g h)) ∙ o.answer;
           }
 
     pub line_ends : stop ≤ g + 1 → s ≡ r

@@ -3,6 +3,7 @@ use Rattle.std.specs.Prelude.{◌≡◌, true, false, List, [], ◌∷◌, ◌++
 use Rattle.limits.specs.Limits.{most_splits}
 use Rattle.drawing_spec.specs.Drawing.{Point}
 use Rattle.graph_spec.specs.Chain.{inner, changes}
+use Rattle.graph_splits.specs.Buffer.{Buffer}
 use Rattle.graph_splits.specs.Points.{Points, point_in}
 use Rattle.graph_segment_ends.specs.Gather.{insert_all}
 
@@ -22,7 +23,7 @@ chain_from k ns e a b = changes a (inner a b (sorted_from k ns e a)) ++ (b ∷ [
 -- ---- the contract's words
 
 -- the three lists of the buffer have their lengths
-pub record Scratch (ks xs ys : List ℕ) : Type 0 where
-  pub keys_long : length ks ≡ most_splits
-  pub xs_long : length xs ≡ most_splits
-  pub ys_long : length ys ≡ most_splits
+pub record Scratch (b : Buffer) : Type 0 where
+  pub keys_long : length b.keys ≡ most_splits
+  pub xs_long : length b.xs ≡ most_splits
+  pub ys_long : length b.ys ≡ most_splits

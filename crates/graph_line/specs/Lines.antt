@@ -2,7 +2,8 @@
 use Rattle.std.specs.Prelude.{true, false, List, [], ◌∷◌, ℕ, ◌+◌, ◌-◌, get_or, ltb}
 use Rattle.drawing_spec.specs.Drawing.{Point}
 use Rattle.graph_splits.specs.Next.{at}
-use Rattle.graph_splits.specs.Points.{Points, point_in}
+use Rattle.graph_splits.specs.Points.{Points, points, point_in}
+use Rattle.graph_segment_ends.specs.Ends.{Store}
 use Rattle.file_drawing.specs.Back.{points_back}
 use Rattle.graph_moves.specs.Moves.{Move, start, line_moves}
 use Rattle.graph_strokes.specs.Step.{Traced}
@@ -17,6 +18,10 @@ pub record Filing : Type 0 where
 
 abbrev pub filing : Points → List ℕ → List ℕ → Filing
 filing k ns hs = record { ends = k; next = ns; newest = hs }
+
+-- as the code holds them
+abbrev pub filing_from : Store → Filing
+filing_from s = filing (points s.xs s.ys) s.next s.newest
 
 -- the chain of the segment at place g
 abbrev pub chains_of : Filing → ℕ → Point → Point → List Point

@@ -1,105 +1,75 @@
 // A line traced, segment by segment.
 #![tactic(auto)]
 
-ghost use Rattle.std.specs.Prelude.{◌≡◌, ◌≤◌};
+ghost use Rattle.std.specs.Prelude.{◌≡◌, ◌<◌, ◌≤◌};
 ghost use Rattle.limits.specs.Limits.{most_points};
 ghost use Rattle.graph_splits.specs.Next.{at};
-ghost use Rattle.graph_splits.specs.Points.{points, MeasurablePoints};
+ghost use Rattle.graph_splits.specs.Points.{points, point_in, MeasurablePoints};
 ghost use Rattle.graph_moves.specs.Moves.{draw_all};
-ghost use Rattle.graph_strokes.specs.Step.{traced_in};
 ghost use Rattle.graph_chain.specs.Along.{traced_along, Traceable};
 ghost use Rattle.graph_line.specs.Follow.{chain_from, Scratch};
-ghost use Rattle.graph_line.specs.Lines.{filing, line_in, anywhere, Ready};
+ghost use Rattle.graph_line.specs.Lines.{filing_from, line_in, anywhere, Ready};
 
-use graph_nodes::BUCKETS;
-use graph_strokes::Trail;
-use limits::{ARC_ROOM, EDGE_ROOM, MOST_NODES, MOST_POINTS, MOST_SPLITS};
+use file_drawing::Drawing;
+use graph_segment_ends::SegmentEnds;
+use graph_splits::Buffer;
+use graph_strokes::Traced;
+use grid::Point;
 
-// The segment from a to b, whose newest end is `first`: its split points are gathered into `keys`, `sx`
-// and `sy`, and its chain is traced.
+// The segment from a to b, whose newest end is `first`: its split points are gathered into `splits`, and its chain is traced.
 pub fn trace_segment(
-    xs: &mut [u32; MOST_NODES],
-    ys: &mut [u32; MOST_NODES],
-    older: &mut [u16; MOST_NODES],
-    buckets: &mut [u16; BUCKETS],
-    ends: &mut [u16; ARC_ROOM],
-    weights: &mut [f64; EDGE_ROOM],
-    next: &mut [u16; ARC_ROOM],
-    heads: &mut [u16; 2 * MOST_NODES],
-    keys: &mut [u64; MOST_SPLITS],
-    sx: &mut [u32; MOST_SPLITS],
-    sy: &mut [u32; MOST_SPLITS],
-    pxs: &[u32; MOST_SPLITS],
-    pys: &[u32; MOST_SPLITS],
-    filed: &[u16; MOST_SPLITS],
+    traced: &mut Traced,
+    splits: &mut Buffer,
+    ends: &SegmentEnds,
     first: usize,
-    from: Trail,
-    ax: u32,
-    ay: u32,
-    bx: u32,
-    by: u32,
-) -> Trail
-    requires scratch { Scratch keys.old sx.old sy.old }
-    requires measurable { MeasurablePoints (points pxs.now pys.now) }
-    requires traceable { Traceable (at ax ay) (draw_all (chain_from (points pxs.now pys.now) filed.now first (at ax ay) (at bx by))) (traced_in xs.old ys.old older.old buckets.old ends.old weights.old next.old heads.old from) }
-    ensures graph { traced_in xs.new ys.new older.new buckets.new ends.new weights.new next.new heads.new result ≡ traced_along (at ax ay) (draw_all (chain_from (points pxs.now pys.now) filed.now first (at ax ay) (at bx by))) (traced_in xs.old ys.old older.old buckets.old ends.old weights.old next.old heads.old from) }
-    ensures scratch { Scratch keys.new sx.new sy.new }
+    a: Point,
+    b: Point,
+)
+    requires scratch { Scratch splits.old }
+    requires measurable { MeasurablePoints (points ends.now.xs ends.now.ys) }
+    requires traceable { Traceable (at a.x a.y) (draw_all (chain_from (points ends.now.xs ends.now.ys) ends.now.next first (at a.x a.y) (at b.x b.y))) traced.old }
+    ensures graph { traced.new ≡ traced_along (at a.x a.y) (draw_all (chain_from (points ends.now.xs ends.now.ys) ends.now.next first (at a.x a.y) (at b.x b.y))) traced.old }
+    ensures scratch { Scratch splits.new }
 {
-    let count = graph_segment_ends::gather(pxs, pys, filed, first, ax, ay, keys, sx, sy);
-    graph_chain::trace_chain(
-        xs, ys, older, buckets, ends, weights, next, heads, sx, sy, count, from, ax, ay, bx, by,
-    )
+    let count = ends.gather(splits, first, a);
+    graph_chain::trace_chain(traced, splits, count, a, b);
 }
 
-// One line, whose points are those from `first` to `stop`; an empty one is nothing.
+// The point at place i among those of all lines.
+fn point_at(drawing: &Drawing, i: usize) -> Point
+    requires { i < most_points }
+    ensures { at result.x result.y ≡ point_in (points drawing.now.xs drawing.now.ys) i }
+{
+    Point {
+        x: drawing.xs[i],
+        y: drawing.ys[i],
+    }
+}
+
+// One line, whose points are those from `first` to `stop`; an empty one is nothing. What `splits` holds afterwards is left open: it is
+// lent for the split points of one segment at a time.
 pub fn trace_line(
-    xs: &mut [u32; MOST_NODES],
-    ys: &mut [u32; MOST_NODES],
-    older: &mut [u16; MOST_NODES],
-    buckets: &mut [u16; BUCKETS],
-    ends: &mut [u16; ARC_ROOM],
-    weights: &mut [f64; EDGE_ROOM],
-    next: &mut [u16; ARC_ROOM],
-    heads: &mut [u16; 2 * MOST_NODES],
-    keys: &mut [u64; MOST_SPLITS],
-    sx: &mut [u32; MOST_SPLITS],
-    sy: &mut [u32; MOST_SPLITS],
-    pxs: &[u32; MOST_SPLITS],
-    pys: &[u32; MOST_SPLITS],
-    filed: &[u16; MOST_SPLITS],
-    newest: &[u16; MOST_POINTS],
-    lx: &[u32; MOST_POINTS],
-    ly: &[u32; MOST_POINTS],
+    traced: &mut Traced,
+    splits: &mut Buffer,
+    ends: &SegmentEnds,
+    drawing: &Drawing,
     first: usize,
     stop: usize,
-    from: Trail,
-) -> Trail
+)
     requires inside { stop ≤ most_points }
-    requires scratch { Scratch keys.old sx.old sy.old }
-    requires measurable { MeasurablePoints (points pxs.now pys.now) }
-    requires traceable { Ready (line_in (filing (points pxs.now pys.now) filed.now newest.now) (points lx.now ly.now) first stop) (traced_in xs.old ys.old older.old buckets.old ends.old weights.old next.old heads.old from) }
-    ensures graph { traced_in xs.new ys.new older.new buckets.new ends.new weights.new next.new heads.new result ≡ traced_along anywhere (line_in (filing (points pxs.now pys.now) filed.now newest.now) (points lx.now ly.now) first stop) (traced_in xs.old ys.old older.old buckets.old ends.old weights.old next.old heads.old from) }
-    ensures scratch { Scratch keys.new sx.new sy.new }
+    requires scratch { Scratch splits.old }
+    requires measurable { MeasurablePoints (points ends.now.xs ends.now.ys) }
+    requires traceable { Ready (line_in (filing_from ends.now) (points drawing.now.xs drawing.now.ys) first stop) traced.old }
+    ensures graph { traced.new ≡ traced_along anywhere (line_in (filing_from ends.now) (points drawing.now.xs drawing.now.ys) first stop) traced.old }
+    ensures scratch { Scratch splits.new }
 {
     if stop <= first {
-        return from;
+        return;
     }
-    let last = stop - 1;
-    let qx = lx[first];
-    let qy = ly[first];
-    let mut t = graph_strokes::begin(xs, ys, older, buckets, from, qx, qy);
-    let mut g = first;
-    while g < last {
-        let e = widen::wide(newest[g]);
-        let ax = lx[g];
-        let ay = ly[g];
-        let bx = lx[g + 1];
-        let by = ly[g + 1];
-        t = trace_segment(
-            xs, ys, older, buckets, ends, weights, next, heads, keys, sx, sy, pxs, pys, filed, e,
-            t, ax, ay, bx, by,
-        );
-        g += 1;
+    traced.begin(point_at(drawing, first));
+    for g in first..stop - 1 {
+        let a = point_at(drawing, g);
+        let b = point_at(drawing, g + 1);
+        trace_segment(traced, splits, ends, usize::from(ends.newest[g]), a, b);
     }
-    t
 }

@@ -5,6 +5,7 @@ use Prim.Native.Nat.{ℕ, zero, suc, ◌+◌, ◌-◌, ◌*◌, ◌≤◌, ◌<�
 use native.Mathlib.Omega.{arith}
 use lib.ListN.{get_or}
 use Rattle.limits.specs.Limits.{most_points}
+use Rattle.drawing_spec.specs.Drawing.{Point}
 use Rattle.graph_splits.specs.Points.{Points, point_in}
 use Rattle.graph_moves.specs.Moves.{Move, start, on}
 use Rattle.graph_strokes.specs.Step.{NodeReady, StepReady, Traced, begun, stepped}
@@ -78,38 +79,39 @@ module _ (f : Points) (n : ℕ) where
       record { ready = subst (λ (m : ℕ). Ready (links_in f m 0) s) none r; answer = sym (ap (λ (m : ℕ). traced_along anywhere (links_in f m 0) s) none) }
 
   module _ (k : ℕ) (s r : Traced) (o : OnLinks f n k s r) where
-    module _ (h : k < n) where
-      link_one : links_in f (n - k) k ≡ start (point_in f (2 * k)) ∷ on (point_in f (2 * k + 1)) ∷ links_in f (n - (k + 1)) (k + 1)
-      unfolding links_in
-      link_one = let more : n - k ≡ suc (n - (k + 1)) = omega arith in ap (λ (m : ℕ). links_in f m k) more
+    -- link k, from its end at p to that at q
+    module _ (h : k < n) (p q : Point) (start_is : p ≡ point_in f (2 * k)) (end_is : q ≡ point_in f (2 * k + 1)) where
+      to_come : List Move
+      to_come = links_in f (n - (k + 1)) (k + 1)
 
-      pub first_ready : NodeReady (point_in f (2 * k)) s.node_count s.table
-      first_ready =
-          begin_ready o.ready.place (point_in f (2 * k)) (on (point_in f (2 * k + 1)) ∷ links_in f (n - (k + 1)) (k + 1)) s
-          (subst (λ (ms : List Move). Traceable o.ready.place ms s) link_one o.ready.traceable)
+      link_one : links_in f (n - k) k ≡ start p ∷ on q ∷ to_come
+      unfolding links_in to_come
+      link_one =
+          let more : n - k ≡ suc (n - (k + 1)) = omega arith in
+          ap (λ (m : ℕ). links_in f m k) more ∙ ap (λ (z : Point). start z ∷ on (point_in f (2 * k + 1)) ∷ links_in f (n - (k + 1)) (k + 1)) (sym start_is)
+          ∙ ap (λ (z : Point). start p ∷ on z ∷ links_in f (n - (k + 1)) (k + 1)) (sym end_is)
 
-    module _ (h : k < n) (s₁ : Traced) (e₁ : s₁ ≡ begun (point_in f (2 * k)) s) where
-      first_done : Traceable (point_in f (2 * k)) (on (point_in f (2 * k + 1)) ∷ links_in f (n - (k + 1)) (k + 1)) s₁
-      unfolding traced_by
-      first_done =
-          subst (Traceable (point_in f (2 * k)) (on (point_in f (2 * k + 1)) ∷ links_in f (n - (k + 1)) (k + 1))) (sym e₁)
-          (traceable_next o.ready.place (start (point_in f (2 * k))) (on (point_in f (2 * k + 1)) ∷ links_in f (n - (k + 1)) (k + 1)) s
-          (subst (λ (ms : List Move). Traceable o.ready.place ms s) (link_one h) o.ready.traceable))
+      from_first : Traceable o.ready.place (start p ∷ on q ∷ to_come) s
+      from_first = subst (λ (ms : List Move). Traceable o.ready.place ms s) link_one o.ready.traceable
 
-      pub second_ready : StepReady (point_in f (2 * k)) (point_in f (2 * k + 1)) s₁
-      second_ready = step_ready (point_in f (2 * k)) (point_in f (2 * k + 1)) (links_in f (n - (k + 1)) (k + 1)) s₁ first_done
+      pub first_ready : NodeReady p s.node_count s.table
+      first_ready = begin_ready o.ready.place p (on q ∷ to_come) s from_first
 
-      pub link_drawn : (s₂ : Traced) → s₂ ≡ stepped (point_in f (2 * k)) (point_in f (2 * k + 1)) s₁ → OnLinks f n (k + 1) s₂ r
-      unfolding traced_along traced_by
-      link_drawn s₂ e₂ =
-          let a = point_in f (2 * k) in
-          let b = point_in f (2 * k + 1) in
-          let ms = links_in f (n - (k + 1)) (k + 1) in
-          record {
-            ready = record { place = b; traceable = subst (Traceable b ms) (sym e₂) (traceable_next a (on b) ms s₁ first_done) };
-            answer = anew_any anywhere b ms s₂ (links_anew f (n - (k + 1)) (k + 1)) ∙ ap (traced_along b ms) (e₂ ∙ ap (stepped a b) e₁)
-                ∙ sym (ap (λ (ks : List Move). traced_along anywhere ks s) (link_one h)) ∙ o.answer;
-          }
+      module _ (s₁ : Traced) (e₁ : s₁ ≡ begun p s) where
+        first_done : Traceable p (on q ∷ to_come) s₁
+        unfolding traced_by
+        first_done = subst (Traceable p (on q ∷ to_come)) (sym e₁) (traceable_next o.ready.place (start p) (on q ∷ to_come) s from_first)
+
+        pub second_ready : StepReady p q s₁
+        second_ready = step_ready p q to_come s₁ first_done
+
+        pub link_drawn : (s₂ : Traced) → s₂ ≡ stepped p q s₁ → OnLinks f n (k + 1) s₂ r
+        unfolding traced_along traced_by to_come
+        link_drawn s₂ e₂ = record {
+          ready = record { place = q; traceable = subst (Traceable q to_come) (sym e₂) (traceable_next p (on q) to_come s₁ first_done) };
+          answer = anew_any anywhere q to_come s₂ (links_anew f (n - (k + 1)) (k + 1)) ∙ ap (traced_along q to_come) (e₂ ∙ ap (stepped p q) e₁)
+              ∙ sym (ap (λ (ks : List Move). traced_along anywhere ks s) link_one) ∙ o.answer;
+        }
 
     pub links_end : n ≤ k → s ≡ r
     unfolding traced_along links_in

@@ -18,7 +18,7 @@ use Rattle.drawing_spec.proofs.Same.{same_true, same_false, differ}
 use Rattle.graph_spec.specs.Graph.{find, node_of, get_or_insert}
 use Rattle.graph_spec.proofs.Nodes.{front, behind, neither}
 use Rattle.graph_nodes.specs.Table.{Table, bucket_count, HasRoom, no_nodes, hash_of, is_at, seek, found_in, inserted, number_in, table_with, count_with}
-use Rattle.graph_nodes.proofs.Table.{seek_hit, seek_on, seek_none, number_found, number_new, with_found, with_new}
+use Rattle.graph_nodes.proofs.TableLaws.{seek_hit, seek_on, seek_none, number_found, number_new, with_found, with_new}
 use Rattle.graph_nodes.specs.Held.{Held, Inside, answer}
 
 inside_more : (m k : ℕ) → Inside m k → Inside (suc m) k

@@ -1,4 +1,4 @@
 -- Laws of the definitions in specs/.
 pub mod Held
 pub mod Points
-pub mod Table
+pub mod TableLaws

@@ -1,5 +1,5 @@
 -- What it is for a table to hold the nodes of a list.
-use Rattle.std.specs.Prelude.{cond, ◌≡◌, ◌⊎◌, List, map, ℕ, ◌-◌, ◌≤◌, ◌<◌, length, get_or, replicate, ltb}
+use Rattle.std.specs.Prelude.{cond, ◌≡◌, ◌⊎◌, List, map, ℕ, ◌≤◌, ◌<◌, length, get_or, replicate, ltb}
 use Rattle.std.proofs.lemmas.List.Edits.{sets}
 use Rattle.limits.specs.Limits.{most_nodes}
 use Rattle.drawing_spec.specs.Drawing.{Point}

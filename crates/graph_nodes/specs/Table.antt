@@ -1,16 +1,14 @@
 -- Nodes in flat lists, with buckets of nodes whose coordinates have one hash.
-use Rattle.std.specs.Prelude.{ℕ, zero, suc, ◌+◌, ◌*◌, ◌/◌, ◌%◌, ◌<◌, ◌⊎◌, List, Bool, ◌&&◌, cond, get_or, set, replicate, eqb, ltb}
+use Rattle.std.specs.Prelude.{ℕ, zero, suc, ◌+◌, ◌*◌, ◌/◌, ◌%◌, ◌<◌, ◌⊎◌, List, Bool, ◌&&◌, cond, get_or, set, replicate, eqb, ltb, Option, Some, None}
 use Rattle.limits.specs.Limits.{most_nodes}
+use Rattle.graph_nodes.specs.declared.Table as code
 
 abbrev pub bucket_count : ℕ
 bucket_count = 2048
 
--- `xs` and `ys` have the coordinates of each node. `buckets` has the newest node of each hash, `next` has for each node the next older one of its hash; most_nodes is none.
-pub record Table : Type 0 where
-  pub xs : List ℕ
-  pub ys : List ℕ
-  pub next : List ℕ
-  pub buckets : List ℕ
+-- The nodes in flat lists, as the code holds them.
+abbrev pub Table : Type 0
+Table = code.Table
 
 abbrev pub table : List ℕ → List ℕ → List ℕ → List ℕ → Table
 table xs ys ns bs = record { xs = xs; ys = ys; next = ns; buckets = bs }
@@ -30,6 +28,10 @@ is_at xs ys x y i = eqb (get_or xs i 0) x && eqb (get_or ys i 0) y
 unfoldable pub seek : ℕ → List ℕ → List ℕ → List ℕ → ℕ → ℕ → ℕ → ℕ
 seek zero xs ys ns x y i = most_nodes
 seek (suc fuel) xs ys ns x y i = cond (ltb i most_nodes) (cond (is_at xs ys x y i) i (seek fuel xs ys ns x y (get_or ns i 0))) most_nodes
+
+-- a node by its number, where there is one
+abbrev pub known : ℕ → Option ℕ
+known i = cond (ltb i most_nodes) (Some i) None
 
 -- among n nodes
 abbrev pub found_in : ℕ → ℕ → ℕ → Table → ℕ

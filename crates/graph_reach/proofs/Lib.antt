@@ -1,4 +1,4 @@
 -- Laws of the definitions in specs/, and the invariants of the loops.
-pub mod Marks
+pub mod MarksLaws
 pub mod Targets
 pub mod Spread

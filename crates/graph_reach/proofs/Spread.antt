@@ -17,7 +17,7 @@ use Rattle.graph_spec.proofs.Reached.{reached_all, all_reached_lem}
 use Rattle.graph_adjacency.specs.Lists.{Adjacency}
 use Rattle.graph_arrays.specs.Arrays.{edges_in, EdgesLinked}
 use Rattle.graph_reach.specs.Marks.{Marks, marks, Marked, mark_all, free, Tidy, targets_of}
-use Rattle.graph_reach.proofs.Marks.{Nodes, marked_below, Waits, waits_on, Grown, tidy_all, grown_all, all_marks, all_only}
+use Rattle.graph_reach.proofs.MarksLaws.{Nodes, marked_below, Waits, waits_on, Grown, tidy_all, grown_all, all_marks, all_only}
 use Rattle.graph_reach.proofs.Targets.{joined_target, target_joined, targets_nodes}
 use Rattle.graph_reach.specs.Tells.{Tells}
 

@@ -18,7 +18,7 @@ use Rattle.graph_adjacency.proofs.Follow.{follows_none, follows_arc, follows_nex
 use Rattle.graph_arrays.specs.Arrays.{edges_in, EdgesLinked}
 use Rattle.graph_arrays.proofs.Arrays.{follows_edges}
 use Rattle.graph_reach.specs.Marks.{Marks, Tidy, marking, mark_all, targets_of}
-use Rattle.graph_reach.proofs.Marks.{Nodes, tidy_marking}
+use Rattle.graph_reach.proofs.MarksLaws.{Nodes, tidy_marking}
 
 -- ---- the nodes that v is joined with
 

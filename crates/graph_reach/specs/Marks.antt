@@ -2,12 +2,11 @@
 use Rattle.std.specs.Prelude.{◌≡◌, List, [], ◌∷◌, map, Bool, true, false, cond, ℕ, suc, ◌+◌, ◌≤◌, ◌<◌, length, get_or, set}
 use Rattle.limits.specs.Limits.{most_nodes}
 use Rattle.graph_spec.specs.Graph.{Edge, Arc, edges_at}
+use Rattle.graph_reach.specs.declared.Marks as code
 
 -- which nodes are marked, the nodes in the order in which they were, and how many of these there are
-pub record Marks : Type 0 where
-  pub marked : List Bool
-  pub queue : List ℕ
-  pub tail : ℕ
+abbrev pub Marks : Type 0
+Marks = code.Marks
 
 abbrev pub marks : List Bool → List ℕ → ℕ → Marks
 marks ms q n = record { marked = ms; queue = q; tail = n }

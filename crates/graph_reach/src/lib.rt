@@ -5,107 +5,81 @@
 ghost use Rattle.std.specs.Prelude.{◌≡◌, ◌<◌, ◌≤◌};
 ghost use Rattle.limits.specs.Limits.{most_nodes};
 ghost use Rattle.graph_spec.specs.Reach.{all_reached};
-ghost use Rattle.graph_adjacency.specs.Lists.{adjacency};
 ghost use Rattle.graph_arrays.specs.Arrays.{edges_in, EdgesLinked};
-ghost use Rattle.graph_reach.specs.Marks.{marks, Tidy, marking, mark_all, targets_of};
+ghost use Rattle.graph_reach.specs.Marks.{Tidy, marking, mark_all, targets_of};
 ghost use Rattle.graph_reach.specs.Tells.{Tells};
 
-use limits::{ARC_ROOM, EDGE_ROOM, MOST_NODES};
+use graph_adjacency::Adjacency;
+use limits::MOST_NODES;
 
-// Marks v, and puts it last in the queue, unless it is marked already; the answer is the queue's length.
-fn mark(
-    marked: &mut [bool; MOST_NODES],
-    queue: &mut [u16; MOST_NODES],
+// Which nodes are marked, and the `tail` of them that are, in the order in which they were marked.
+#[derive(Drop)]
+struct Marks {
+    marked: [bool; MOST_NODES],
+    queue: [u16; MOST_NODES],
     tail: usize,
-    v: usize,
-) -> usize
-    requires node { v < most_nodes }
-    requires tidy { Tidy (marks marked.old queue.old tail) }
-    ensures { marks marked.new queue.new result ≡ marking v (marks marked.old queue.old tail) }
-{
-    if marked[v] {
-        return tail;
-    }
-    marked[v] = true;
-    queue[tail] = v as u16;
-    tail + 1
 }
 
-// Marks the nodes that v is joined with.
-fn mark_neighbours(
-    ends: &[u16; ARC_ROOM],
-    weights: &[f64; EDGE_ROOM],
-    next: &[u16; ARC_ROOM],
-    heads: &[u16; 2 * MOST_NODES],
-    n: usize,
-    m: usize,
-    marked: &mut [bool; MOST_NODES],
-    queue: &mut [u16; MOST_NODES],
-    tail: usize,
-    v: usize,
-) -> usize
-    requires edges { EdgesLinked n m (adjacency ends.now weights.now next.now heads.now) }
-    requires node { v < most_nodes }
-    requires tidy { Tidy (marks marked.old queue.old tail) }
-    ensures { marks marked.new queue.new result ≡ mark_all (targets_of (edges_in m (adjacency ends.now weights.now next.now heads.now)) v) (marks marked.old queue.old tail) }
-{
-    let mut end = tail;
-    let mut k = graph_adjacency::first_arc(heads, v);
-    while 0 < k {
-        let w = widen::wide(ends[k - 1]);
-        end = mark(marked, queue, end, w);
-        k = graph_adjacency::next_arc(next, heads, v, k);
-    }
-    end
-}
-
-// Whether the first n nodes are marked.
-fn all_marked(marked: &[bool; MOST_NODES], n: usize) -> bool
-    requires { n ≤ most_nodes }
-    ensures { Tells n marked.now result }
-{
-    let mut v: usize = 0;
-    while v < n {
-        if !marked[v] {
-            return false;
+impl Marks {
+    // Marks v, and puts it last in the queue, unless it is marked already.
+    fn mark(&mut self, v: usize)
+        requires node { v < most_nodes }
+        requires tidy { Tidy self.old }
+        ensures { self.new ≡ marking v self.old }
+    {
+        if self.marked[v] {
+            return;
         }
-        v += 1;
+        self.marked[v] = true;
+        self.queue[self.tail] = v as u16;
+        self.tail += 1;
     }
-    true
+
+    // Marks the nodes that v is joined with.
+    fn mark_neighbours(&mut self, edges: &Adjacency, n: usize, m: usize, v: usize)
+        requires edges { EdgesLinked n m edges.now }
+        requires node { v < most_nodes }
+        requires tidy { Tidy self.old }
+        ensures { self.new ≡ mark_all (targets_of (edges_in m edges.now) v) self.old }
+    {
+        let mut k = edges.first_arc(v);
+        while 0 < k {
+            let w = usize::from(edges.ends[k - 1]);
+            self.mark(w);
+            k = edges.next_arc(v, k);
+        }
+    }
+
+    // Whether the first n nodes are marked.
+    fn all_marked(&self, n: usize) -> bool
+        requires { n ≤ most_nodes }
+        ensures { Tells n self.now.marked result }
+    {
+        for v in 0..n {
+            if !self.marked[v] {
+                return false;
+            }
+        }
+        true
+    }
 }
 
 // Check 9: whether every one of n nodes can be reached from node 0 by the first m edges.
-pub fn all_reached(
-    ends: &[u16; ARC_ROOM],
-    weights: &[f64; EDGE_ROOM],
-    next: &[u16; ARC_ROOM],
-    heads: &[u16; 2 * MOST_NODES],
-    n: usize,
-    m: usize,
-) -> bool
-    requires { EdgesLinked n m (adjacency ends.now weights.now next.now heads.now) }
-    ensures { result ≡ all_reached n (edges_in m (adjacency ends.now weights.now next.now heads.now)) }
+pub fn all_reached(edges: &Adjacency, n: usize, m: usize) -> bool
+    requires { EdgesLinked n m edges.now }
+    ensures { result ≡ all_reached n (edges_in m edges.now) }
 {
-    let mut marked = [false; MOST_NODES];
-    let mut queue = [0u16; MOST_NODES];
-    marked[0] = true;
+    let mut marks = Marks {
+        marked: [false; MOST_NODES],
+        queue: [0; MOST_NODES],
+        tail: 1,
+    };
+    marks.marked[0] = true;
     let mut head: usize = 0;
-    let mut tail: usize = 1;
-    while head < tail {
-        let v = widen::wide(queue[head]);
-        tail = mark_neighbours(
-            ends,
-            weights,
-            next,
-            heads,
-            n,
-            m,
-            &mut marked,
-            &mut queue,
-            tail,
-            v,
-        );
+    while head < marks.tail {
+        let v = usize::from(marks.queue[head]);
+        marks.mark_neighbours(edges, n, m, v);
         head += 1;
     }
-    all_marked(&marked, n)
+    marks.all_marked(n)
 }

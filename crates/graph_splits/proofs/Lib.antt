@@ -1,5 +1,5 @@
 -- Laws of the definitions in specs/.
 pub mod Ascending
-pub mod Buffer
+pub mod BufferLaws
 pub mod Next
 pub mod Sorted

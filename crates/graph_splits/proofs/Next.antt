@@ -2,11 +2,10 @@
 use mathlib.Core.Path.{◌≡◌, refl, sym, ap, ◌∙◌}
 use mathlib.Core.Bool.{Bool, true, false, ◌&&◌, not, cond}
 use mathlib.Core.List.{List, [], ◌∷◌, ◌++◌}
-use Prim.Native.Nat.{ℕ, zero, suc, ◌+◌, ◌-◌, ◌<◌}
+use Prim.Native.Nat.{ℕ, zero, suc, ◌+◌, ◌<◌}
 use native.Mathlib.Omega.{arith}
 use lib.ListN.{get_or}
-use lib.Dec.{eqb}
-use borrow.Author.Tests.{eq-eqb, ne_eqb, not-true, not-false}
+use borrow.Author.Tests.{not-true, not-false}
 use Rattle.drawing_spec.proofs.Same.{both}
 use Rattle.drawing_spec.specs.Drawing.{Point, same, Link}
 use Rattle.graph_spec.specs.Chain.{inner, changes, distinct, chain, sort, splits}
@@ -14,37 +13,16 @@ use Rattle.graph_splits.specs.Next.{at, keeps, next_split}
 
 -- ---- laws for the code
 
-pub same_one : (px py qx qy : ℕ) → px ≡ qx → eqb py qy ≡ same (at px py) (at qx qy)
-same_one px py qx qy h = ap (λ (t : Bool). t && eqb py qy) (sym (eq-eqb px qx h))
-
-pub same_none : (px py qx qy : ℕ) → (px ≡ qx → ⊥) → false ≡ same (at px py) (at qx qy)
-same_none px py qx qy h = ap (λ (t : Bool). t && eqb py qy) (sym (ne_eqb px qx h))
-
-module _ (a b l p : Point) where
-  pub goes_start : same p a ≡ true → false ≡ keeps a b l p
-  unfolding keeps
-  goes_start h = ap (λ (t : Bool). (not t && not (same p b)) && not (same p l)) (sym h)
-
-  pub goes_end : same p a ≡ false → same p b ≡ true → false ≡ keeps a b l p
-  unfolding keeps
-  goes_end h k = ap (λ (t : Bool). (not t) && not (same p l)) (sym k) ∙ ap (λ (t : Bool). (not t && not (same p b)) && not (same p l)) (sym h)
-
-  pub stays_by : same p a ≡ false → same p b ≡ false → (t : Bool) → t ≡ same p l → not t ≡ keeps a b l p
-  unfolding keeps
-  stays_by h k t e = ap not e ∙ ap (λ (t : Bool). (not t) && not (same p l)) (sym k) ∙ ap (λ (t : Bool). (not t && not (same p b)) && not (same p l)) (sym h)
-
 module _ (xs ys : List ℕ) (a b l : Point) where
   pub next_here : (fuel i : ℕ) → 0 < fuel → keeps a b l (at (get_or xs i 0) (get_or ys i 0)) ≡ true → next_split fuel xs ys a b l i ≡ i
   unfolding next_split
   next_here zero i f h = absurd (omega arith)
   next_here (suc fuel) i f h = ap (λ (t : Bool). cond t i (next_split fuel xs ys a b l (i + 1))) h
 
-  pub next_on : (fuel i r : ℕ) → 0 < fuel → keeps a b l (at (get_or xs i 0) (get_or ys i 0)) ≡ false → next_split fuel xs ys a b l i ≡ r → next_split (fuel - 1) xs ys a b l (i + 1) ≡ r
+  pub next_on : (fuel more i : ℕ) → fuel ≡ suc more → keeps a b l (at (get_or xs i 0) (get_or ys i 0)) ≡ false → next_split more xs ys a b l (i + 1) ≡ next_split fuel xs ys a b l i
   unfolding next_split
-  next_on zero i r f h e = absurd (omega arith)
-  next_on (suc fuel) i r f h e =
-      let less : suc fuel - 1 ≡ fuel = omega arith in
-      ap (λ (k : ℕ). next_split k xs ys a b l (i + 1)) less ∙ sym (ap (λ (t : Bool). cond t i (next_split fuel xs ys a b l (i + 1))) h) ∙ e
+  next_on fuel more i f h =
+      sym (ap (λ (k : ℕ). next_split k xs ys a b l i) f ∙ ap (λ (t : Bool). cond t i (next_split more xs ys a b l (i + 1))) h)
 
   pub next_end : (fuel i : ℕ) → fuel ≡ 0 → next_split fuel xs ys a b l i ≡ i
   unfolding next_split

@@ -2,7 +2,7 @@
 use mathlib.Core.Path.{◌≡◌, refl, sym, ap, subst, ◌∙◌}
 use mathlib.Core.Bool.{Bool, true, false}
 use mathlib.Core.List.{List, [], ◌∷◌, ◌++◌, map}
-use Prim.Native.Nat.{ℕ, ◌+◌, ◌≤◌, ◌<◌}
+use Prim.Native.Nat.{ℕ, ◌≤◌, ◌<◌}
 use native.Mathlib.Omega.{arith}
 use lib.ListN.{length}
 use lib.Dec.{ltb}
@@ -11,14 +11,14 @@ use Rattle.drawing_spec.specs.Drawing.{Point}
 use Rattle.graph_spec.specs.Pieces.{pieces}
 use Rattle.graph_spec.specs.Graph.{Edge, edge_of, find, node_of, get_or_insert}
 use Rattle.graph_spec.proofs.Nodes.{front}
-use Rattle.graph_nodes.specs.Table.{Table, HasRoom, no_nodes, number_in, table_with, count_with}
-use Rattle.graph_nodes.proofs.Table.{number_low}
+use Rattle.graph_nodes.specs.Table.{Table, HasRoom, number_in, table_with, count_with}
+use Rattle.graph_nodes.proofs.TableLaws.{number_low}
 use Rattle.graph_nodes.specs.Held.{Held}
 use Rattle.graph_nodes.proofs.Held.{held_none, held_room, get_or_insert_lem, counted}
-use Rattle.graph_adjacency.specs.Lists.{Adjacency, no_edges, lists}
+use Rattle.graph_adjacency.specs.Lists.{Adjacency, lists}
 use Rattle.graph_strokes.specs.Trace.{Drawn, drawn_as, with_stroke}
 use Rattle.graph_strokes.proofs.Trace.{drawn_lists}
-use Rattle.graph_strokes.specs.Step.{NodeReady, Numbered, Traced, TracedTo, begun, numbered, numbering, stepped, traced}
+use Rattle.graph_strokes.specs.Step.{NodeReady, Numbered, Traced, TracedTo, begun, numbered, numbering, nothing_traced, stepped, traced}
 
 -- ---- the code's answers
 
@@ -32,16 +32,24 @@ pub node_low : (q : Point) (n : ℕ) (t : Table) (k : Numbered) → k ≡ number
 unfolding numbering
 node_low q n t k e r = omega (arith, ap (λ (j : Numbered). j.node) e, number_low n q.x q.y t r.room)
 
-module _ (q : Point) (s : Traced) (k : Numbered) (is : k ≡ numbering q s.node_count s.table) where
-  pub begin_is : (m' : ℕ) → m' ≡ s.edge_count → traced k.table s.edges k.count m' k.node ≡ begun q s
-  unfolding begun
-  begin_is m' e = ap (λ (m : ℕ). traced k.table s.edges k.count m k.node) e ∙ ap (λ (j : Numbered). traced j.table s.edges j.count s.edge_count j.node) is
+pub begin_is : (q : Point) (s : Traced) (k : Numbered) → k ≡ numbering q s.node_count s.table → traced k.table s.edges k.count s.edge_count k.node ≡ begun q s
+unfolding begun
+begin_is q s k is = ap (λ (j : Numbered). traced j.table s.edges j.count s.edge_count j.node) is
 
-  pub step_is : (p : Point) (m' : ℕ) (g' : Adjacency) → drawn_as m' g' ≡ with_stroke s.edge_count s.node k.node p q s.edges → traced k.table g' k.count m' k.node ≡ stepped p q s
-  unfolding stepped
+module _ (q : Point) (s t : Traced) (is : t ≡ begun q s) where
+  pub begun_low : NodeReady q s.node_count s.table → t.node < most_nodes
+  unfolding begun
+  begun_low r = omega (arith, ap (λ (z : Traced). z.node) is, node_low q s.node_count s.table _ refl r)
+
+  pub begun_edges : (t.edges ≡ s.edges) × (t.edge_count ≡ s.edge_count)
+  unfolding begun
+  begun_edges = (ap (λ (z : Traced). z.edges) is, ap (λ (z : Traced). z.edge_count) is)
+
+  pub step_is : (p : Point) (m' : ℕ) (g' : Adjacency) → drawn_as m' g' ≡ with_stroke t.edge_count s.node t.node p q t.edges → traced t.table g' t.node_count m' t.node ≡ stepped p q s
+  unfolding begun stepped
   step_is p m' g' e =
-      ap (λ (d : Drawn). traced k.table d.edges k.count d.count k.node) e
-      ∙ ap (λ (j : Numbered). let d = with_stroke s.edge_count s.node j.node p q s.edges in traced j.table d.edges j.count d.count j.node) is
+      ap (λ (d : Drawn). traced t.table d.edges t.node_count d.count t.node) e
+      ∙ ap (λ (z : Traced). let d = with_stroke z.edge_count s.node z.node p q z.edges in traced z.table d.edges z.node_count d.count z.node) is
 
 -- a node keeps its number
 node_kept : (ns : List Point) (p q : Point) → node_of ns p < length ns → node_of (get_or_insert ns q) p ≡ node_of ns p
@@ -97,6 +105,6 @@ module _ (ns : List Point) (es : List Edge) (p q : Point) (s : Traced) (T : Trac
   begin_traced = record { nodes_held = table_held; nodes_counted = count_is; edges_held = T.edges_held; edges_counted = T.edges_counted; node_is = v_is }
 
 -- nothing is traced yet
-pub traced_none : (p : Point) → TracedTo [] [] p (traced no_nodes no_edges 0 0 0)
+pub traced_none : (p : Point) → TracedTo [] [] p nothing_traced
 unfolding lists find
 traced_none p = record { nodes_held = held_none; nodes_counted = refl; edges_held = refl; edges_counted = refl; node_is = refl }

@@ -1,13 +1,13 @@
 -- A step from one point of a drawing to the next: the next point's node, and the edge of the stroke to it.
-use Rattle.std.specs.Prelude.{◌≡◌, List, ℕ, ◌≤◌, ◌<◌, length, Float}
+use Rattle.std.specs.Prelude.{◌≡◌, List, ℕ, ◌≤◌, ◌<◌, length, replicate}
 use Rattle.limits.specs.Limits.{most_nodes, edge_room}
 use Rattle.drawing_spec.specs.Drawing.{Point}
 use Rattle.graph_spec.specs.Graph.{Edge, node_of}
 use Rattle.graph_splits.specs.Points.{Measurable}
-use Rattle.graph_nodes.specs.Table.{Table, table, HasRoom, number_in, table_with, count_with}
+use Rattle.graph_nodes.specs.Table.{Table, table, no_nodes, bucket_count, HasRoom, number_in, table_with, count_with}
 use Rattle.graph_nodes.specs.Held.{Held}
-use Rattle.graph_adjacency.specs.Lists.{Adjacency, adjacency, lists}
-use Rattle.graph_strokes.specs.declared.Trail.{Trail}
+use Rattle.graph_adjacency.specs.Lists.{Adjacency, no_edges, lists}
+use Rattle.graph_strokes.specs.declared.Traced as code
 use Rattle.graph_strokes.specs.Trace.{with_stroke}
 
 -- ---- a point's node
@@ -33,19 +33,18 @@ pub record NodeReady (q : Point) (n : ℕ) (t : Table) : Type 0 where
 -- ---- steps
 
 -- the nodes and edges so far, how many there are, and the node last come to
-pub record Traced : Type 0 where
-  pub table : Table
-  pub edges : Adjacency
-  pub node_count : ℕ
-  pub edge_count : ℕ
-  pub node : ℕ
+abbrev pub Traced : Type 0
+Traced = code.Traced
 
 abbrev pub traced : Table → Adjacency → ℕ → ℕ → ℕ → Traced
 traced t g n m u = record { table = t; edges = g; node_count = n; edge_count = m; node = u }
 
--- as the eight arrays and the trail have them
-abbrev pub traced_in : List ℕ → List ℕ → List ℕ → List ℕ → List ℕ → List Float → List ℕ → List ℕ → Trail → Traced
-traced_in xs ys older buckets ends weights next heads t = traced (table xs ys older buckets) (adjacency ends weights next heads) t.nodes t.edges t.node
+abbrev pub nothing_traced : Traced
+nothing_traced = traced no_nodes no_edges 0 0 0
+
+-- no edges, and zeros for the nodes
+abbrev pub zeroed : Traced
+zeroed = traced (table (replicate most_nodes 0) (replicate most_nodes 0) (replicate most_nodes 0) (replicate bucket_count 0)) no_edges 0 0 0
 
 -- on to q from p
 unfoldable pub stepped : Point → Point → Traced → Traced

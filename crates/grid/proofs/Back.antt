@@ -1,6 +1,7 @@
 -- There and back between the 64-bit patterns that check 7 passes and the places 0 to twice the origin: each way undoes the other, but that minus zero comes back as plain zero.
 -- So at one place there is one pattern, minus zero aside.
 -- Proved for every grid of 1 / 2 ^ g with g at most 40, on which each place's number of steps fits an f64's 53 digits, and so for the grid of every file. Assumes nothing.
+use Rattle.std.specs.Prelude.{Some}
 use mathlib.Core.Path.{◌≡◌, refl, sym, ap, ◌∙◌, subst}
 use Prim.Native.Nat.{ℕ, suc, ◌+◌, ◌-◌, ◌*◌, ◌/◌, ◌%◌, ◌^◌, ◌≤◌, ◌<◌}
 use native.Mathlib.Nat.{mul_assoc, mul-one, zero-mul, zero-div, lt_of_le_of_lt, lt_of_lt_of_le, mul-le-mul_left}
@@ -14,7 +15,6 @@ use lib.Ieee.Fits.{down_pos, round-fits}
 use lib.Ieee.Exact.{HasValue, round_exact}
 use lib.Ieee.Bits.{of_bits-to_bits, to_bits-of_bits}
 use borrow.Author.Tests.{lt-ltb, le-ltb, ltb-true, ltb-false, eqb-true, eqb-false, ne_eqb}
-use Rattle.grid.specs.declared.Place.TheVariants.{On}
 use Rattle.grid.specs.Grid.{grid_exponent, reach, origin, origin_of_grid, place_of_steps, place_on_grid, place_of, read_on_grid, read_place, minus_zero, clean, gap, coordinate_on_grid, coordinate, write_on_grid, write_place}
 use Rattle.grid.proofs.Same.{divided, scaled, same_quotient, same_steps, place_of_value, at_place, passed}
 
@@ -133,25 +133,25 @@ pub zero_pattern : (g m : ℕ) (e : ℤ) → m * up e * 2 ^ g ≡ 0 → to_bits 
 zero_pattern g m e z = pattern_of_value binary64 (fin true m e) true 0 (2 ^ g) (pow_pos g) (refl, z ∙ sym (zero-mul (down e))) ∙ no_steps g true
 
 -- both zeros lie at the origin
-zero_place : (g : ℕ) (s : Bool) → place_on_grid g (fin s 0 (pos 0)) ≡ On (origin_of_grid g)
+zero_place : (g : ℕ) (s : Bool) → place_on_grid g (fin s 0 (pos 0)) ≡ Some (origin_of_grid g)
 unfolding place_on_grid
 zero_place g s = ap (λ (a : ℕ). place_of_steps (origin_of_grid g) s a 1) (zero-mul (2 ^ g)) ∙ at_place (origin_of_grid g) s 0 1 (omega arith) (omega arith) ∙ by s
   where
-    by : (s : Bool) → On (cond s (origin_of_grid g - 0 / 1) (origin_of_grid g + 0 / 1)) ≡ On (origin_of_grid g)
-    by true = ap (λ (n : ℕ). On n) (omega arith)
-    by false = ap (λ (n : ℕ). On n) (omega arith)
+    by : (s : Bool) → Some (cond s (origin_of_grid g - 0 / 1) (origin_of_grid g + 0 / 1)) ≡ Some (origin_of_grid g)
+    by true = ap (λ (n : ℕ). Some n) (omega arith)
+    by false = ap (λ (n : ℕ). Some n) (omega arith)
 
-plain_read : (g : ℕ) → read_on_grid g 0 ≡ On (origin_of_grid g)
+plain_read : (g : ℕ) → read_on_grid g 0 ≡ Some (origin_of_grid g)
 plain_read g = read_is g 0 ∙ ap (place_on_grid g) plain_zero_is ∙ zero_place g false
 
-minus_read : (g : ℕ) → read_on_grid g minus_zero ≡ On (origin_of_grid g)
+minus_read : (g : ℕ) → read_on_grid g minus_zero ≡ Some (origin_of_grid g)
 minus_read g = read_is g minus_zero ∙ ap (place_on_grid g) minus_zero_is ∙ zero_place g true
 
 -- and are the patterns that are 0 but for the sign
-pub zero_read : (g b : ℕ) → b < 2 ^ 64 → b % 2 ^ 63 ≡ 0 → read_on_grid g b ≡ On (origin_of_grid g)
+pub zero_read : (g b : ℕ) → b < 2 ^ 64 → b % 2 ^ 63 ≡ 0 → read_on_grid g b ≡ Some (origin_of_grid g)
 zero_read g b h z = go (ltb b minus_zero) refl
   where
-    go : (t : Bool) → ltb b minus_zero ≡ t → read_on_grid g b ≡ On (origin_of_grid g)
+    go : (t : Bool) → ltb b minus_zero ≡ t → read_on_grid g b ≡ Some (origin_of_grid g)
     go true e = let l = ltb-true b minus_zero e in let is : b ≡ 0 = omega arith in ap (read_on_grid g) is ∙ plain_read g
     go false e = let l = ltb-false b minus_zero e in let is : b ≡ minus_zero = omega arith in ap (read_on_grid g) is ∙ minus_read g
 
@@ -164,18 +164,18 @@ module _ (g : ℕ) (G : g ≤ 40) where
 
   -- ---- from a place to its pattern and back
 
-  own_steps : (o p : ℕ) → p ≤ 2 * o → place_of_steps o (ltb p o) (gap p o) 1 ≡ On p
+  own_steps : (o p : ℕ) → p ≤ 2 * o → place_of_steps o (ltb p o) (gap p o) 1 ≡ Some p
   own_steps o p h = go (ltb p o) (ltb→lt p o) (nltb→le p o)
     where
-      go : (s : Bool) → (T s → p < o) → (T (not s) → o ≤ p) → place_of_steps o s (gap p o) 1 ≡ On p
+      go : (s : Bool) → (T s → p < o) → (T (not s) → o ≤ p) → place_of_steps o s (gap p o) 1 ≡ Some p
       go true l k =
           let below : p < o = l tt in
-          at_place o true (gap p o) 1 (omega arith) (omega arith) ∙ ap (λ (n : ℕ). On n) (omega arith)
+          at_place o true (gap p o) 1 (omega arith) (omega arith) ∙ ap (λ (n : ℕ). Some n) (omega arith)
       go false l k =
           let above : o ≤ p = k tt in
-          at_place o false (gap p o) 1 (omega arith) (omega arith) ∙ ap (λ (n : ℕ). On n) (omega arith)
+          at_place o false (gap p o) 1 (omega arith) (omega arith) ∙ ap (λ (n : ℕ). Some n) (omega arith)
 
-  pub read_write_grid : (p : ℕ) → p ≤ 2 * origin_of_grid g → read_on_grid g (write_on_grid g p) ≡ On p
+  pub read_write_grid : (p : ℕ) → p ≤ 2 * origin_of_grid g → read_on_grid g (write_on_grid g p) ≡ Some p
   read_write_grid p h =
       let o = origin_of_grid g in
       let n = gap p o in
@@ -251,7 +251,7 @@ module _ (g : ℕ) (G : g ≤ 40) where
       go true e = signed_pattern x true n p v h i refl (eqb-true n 0 e)
       go false e = plain_pattern x true n p v h i e
 
-  found : (x : Float) (p : ℕ) → place_on_grid g x ≡ On p → T (not (is_nan x)) × ((p ≤ 2 * origin_of_grid g) × (write_on_grid g p ≡ clean (to_bits binary64 x)))
+  found : (x : Float) (p : ℕ) → place_on_grid g x ≡ Some p → T (not (is_nan x)) × ((p ≤ 2 * origin_of_grid g) × (write_on_grid g p ≡ clean (to_bits binary64 x)))
   unfolding place_on_grid is_nan
   found nan p h = absurd (true≢false (cc))
   found (inf s) p h = absurd (true≢false (cc))
@@ -260,7 +260,7 @@ module _ (g : ℕ) (G : g ≤ 40) where
       let is = passed (origin_of_grid g) s a (down e) p h in
       (tt, at_pattern (fin s m e) s (a / down e) p (refl, divided a (down e) is.is_whole) is.near is.is)
 
-  pub write_read_grid : (b p : ℕ) → b < 2 ^ 64 → read_on_grid g b ≡ On p → (p ≤ 2 * origin_of_grid g) × (write_on_grid g p ≡ clean b)
+  pub write_read_grid : (b p : ℕ) → b < 2 ^ 64 → read_on_grid g b ≡ Some p → (p ≤ 2 * origin_of_grid g) × (write_on_grid g p ≡ clean b)
   write_read_grid b p h e =
       let z = found (of_bits binary64 b) p (sym (read_is g b) ∙ e) in
       (z.1.0, z.1.1 ∙ ap clean (to_bits-of_bits binary64 b h z.0))
@@ -276,11 +276,11 @@ module _ (g : ℕ) (G : g ≤ 40) where
 -- ---- for the grid of every file
 
 -- Whatever pattern is read at a place, the place is in range, and its pattern is that one, with plain zero for minus zero.
-pub write_read : (b p : ℕ) → b < 2 ^ 64 → read_place b ≡ On p → (p ≤ 2 * origin) × (write_place p ≡ clean b)
+pub write_read : (b p : ℕ) → b < 2 ^ 64 → read_place b ≡ Some p → (p ≤ 2 * origin) × (write_place p ≡ clean b)
 write_read = write_read_grid grid_exponent (lit≤ tt)
 
 -- each place in range is where its own pattern is read
-pub read_write : (p : ℕ) → p ≤ 2 * origin → read_place (write_place p) ≡ On p
+pub read_write : (p : ℕ) → p ≤ 2 * origin → read_place (write_place p) ≡ Some p
 read_write = read_write_grid grid_exponent (lit≤ tt)
 
 -- a pattern is read where the cleaned one is
@@ -292,18 +292,18 @@ pub never_minus_zero : (p : ℕ) → p < 2 ^ 32 → write_place p ≡ minus_zero
 never_minus_zero p h = written_plain grid_exponent (lit≤ tt) p (omega arith)
 
 -- So at one place there is one pattern, minus zero aside: two that are read there are one where each is cleaned,
-pub one_pattern : (b d p : ℕ) → b < 2 ^ 64 → d < 2 ^ 64 → read_place b ≡ On p → read_place d ≡ On p → clean b ≡ clean d
+pub one_pattern : (b d p : ℕ) → b < 2 ^ 64 → d < 2 ^ 64 → read_place b ≡ Some p → read_place d ≡ Some p → clean b ≡ clean d
 one_pattern b d p hb hd eb ed = sym (write_read b p hb eb).1 ∙ (write_read d p hd ed).1
 
 -- and so are one where neither is minus zero;
-pub one_plain_pattern : (b d p : ℕ) → b < 2 ^ 64 → d < 2 ^ 64 → (b ≡ minus_zero → ⊥) → (d ≡ minus_zero → ⊥) → read_place b ≡ On p → read_place d ≡ On p → b ≡ d
+pub one_plain_pattern : (b d p : ℕ) → b < 2 ^ 64 → d < 2 ^ 64 → (b ≡ minus_zero → ⊥) → (d ≡ minus_zero → ⊥) → read_place b ≡ Some p → read_place d ≡ Some p → b ≡ d
 one_plain_pattern b d p hb hd nb nd eb ed = sym (clean_other b nb) ∙ one_pattern b d p hb hd eb ed ∙ clean_other d nd
 
 -- and the float that the cleaned one stands for is the coordinate at that place
-pub float_read : (b p : ℕ) → b < 2 ^ 64 → read_place b ≡ On p → of_bits binary64 (clean b) ≡ coordinate p
+pub float_read : (b p : ℕ) → b < 2 ^ 64 → read_place b ≡ Some p → of_bits binary64 (clean b) ≡ coordinate p
 float_read b p h e = ap (λ (x : ℕ). of_bits binary64 x) (sym (write_read b p h e).1 ∙ write_is grid_exponent p) ∙ of_bits-to_bits binary64 (coordinate p) (coordinate_fits grid_exponent p)
 
-pub place_coordinate : (p : ℕ) → p ≤ 2 * origin → place_of (coordinate p) ≡ On p
+pub place_coordinate : (p : ℕ) → p ≤ 2 * origin → place_of (coordinate p) ≡ Some p
 place_coordinate p h =
     ap place_of (sym (of_bits-to_bits binary64 (coordinate p) (coordinate_fits grid_exponent p)) ∙ ap (of_bits binary64) (sym (write_is grid_exponent p)))
     ∙ sym (read_is grid_exponent (write_place p)) ∙ read_write p h

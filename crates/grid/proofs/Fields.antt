@@ -1,5 +1,6 @@
 -- A pattern's place by its fields, for every grid of 1 / 2 ^ g. With t its 52 digits and x the field of its exponent it is (2 ^ 52 + t) / 2 ^ (1075 - g - x) steps. Where the field is
 -- below 1023 - g that is less than one step, and where it is above 1035 it is more than 4,096. Assumes nothing.
+use Rattle.std.specs.Prelude.{None}
 use mathlib.Core.Path.{◌≡◌, refl, sym, ap, ◌∙◌, subst}
 use Prim.Native.Nat.{ℕ, zero, suc, ◌+◌, ◌-◌, ◌*◌, ◌/◌, ◌%◌, ◌^◌, ◌≤◌, ◌<◌}
 use native.Mathlib.Nat.{mul_assoc, mul-pos, mod-eq_of_lt, div-add-mod', div-mul-le_self, le-div_iff_mul-le, mul-le-mul_right, mul-lt-mul_of_pos_right, lt_of_lt_of_le, lt_of_le_of_lt, le_trans, le_of_eq, eq-or-lt_of_le, eq-zero-or-pos}
@@ -12,21 +13,20 @@ use lib.Ieee.{nan, inf, Format, binary64, prec, low, odd, hid, ones, of_fields, 
 use lib.Ieee.Exact.{odd_sign}
 use lib.Ieee.Bits.{cond_no}
 use borrow.Author.Tests.{lt-leb, ne_eqb}
-use Rattle.grid.specs.declared.Place.TheVariants.{Off}
 use Rattle.grid.specs.Grid.{origin_of_grid, place_of_steps, place_on_grid, read_on_grid}
 use Rattle.grid.proofs.Same.{same_steps, place_of_value}
 use Rattle.grid.proofs.Back.{read_is}
 
 -- ---- what puts a number of steps off the grid
 
-pub part_of_step : (o : ℕ) (s : Bool) (a c : ℕ) → 0 < a % c → place_of_steps o s a c ≡ Off
+pub part_of_step : (o : ℕ) (s : Bool) (a c : ℕ) → 0 < a % c → place_of_steps o s a c ≡ None
 part_of_step o s a c h = simp (ne_eqb (a % c) 0 (λ e. omega arith))
 
-pub too_far : (o : ℕ) (s : Bool) (a c : ℕ) → o < a / c → place_of_steps o s a c ≡ Off
+pub too_far : (o : ℕ) (s : Bool) (a c : ℕ) → o < a / c → place_of_steps o s a c ≡ None
 too_far o s a c h = simp (lt-leb (a / c) o h, and-false)
 
 -- less than one step, and not zero
-under_one : (o : ℕ) (s : Bool) (a c : ℕ) → 0 < a → a < c → place_of_steps o s a c ≡ Off
+under_one : (o : ℕ) (s : Bool) (a c : ℕ) → 0 < a → a < c → place_of_steps o s a c ≡ None
 under_one o s a c p h = part_of_step o s a c (subst (λ (r : ℕ). 0 < r) (sym (mod-eq_of_lt h)) p)
 
 -- ---- a pattern's fields: its sign, its exponent's and its digits
@@ -54,11 +54,11 @@ fields_mid f s x t h =
     cond_no (eqb (suc x) (ones f)) (cond (eqb t 0) (inf s) nan) (odd (prec f) s (hid f + t) x (low f)) (not_T (eqb (suc x) (ones f)) (λ k. let e = eqb→eq (suc x) (ones f) k in omega arith))
 
 -- an infinity or a NaN
-fields_top : (g : ℕ) (s : Bool) (t : ℕ) → place_on_grid g (of_fields binary64 s 2047 t) ≡ Off
+fields_top : (g : ℕ) (s : Bool) (t : ℕ) → place_on_grid g (of_fields binary64 s 2047 t) ≡ None
 unfolding place_on_grid of_fields
 fields_top g s t = go (eqb t 0)
   where
-    go : (u : Bool) → place_on_grid g (cond u (inf s) nan) ≡ Off
+    go : (u : Bool) → place_on_grid g (cond u (inf s) nan) ≡ None
     go true = refl
     go false = refl
 
@@ -76,26 +76,26 @@ module _ (g b : ℕ) where
   read_mid : (x : ℕ) → exponent b ≡ suc x → suc x < 2047 → read_on_grid g b ≡ place_of_steps (origin_of_grid g) (negative b) ((2 ^ 52 + digits b) * 2 ^ x * 2 ^ g) (2 ^ 1074)
   read_mid x e h = read_fields (suc x) e ∙ ap (place_on_grid g) (fields_mid binary64 (negative b) x (digits b) h) ∙ read_odd (2 ^ 52 + digits b) x
 
-  read_top : exponent b ≡ 2047 → read_on_grid g b ≡ Off
+  read_top : exponent b ≡ 2047 → read_on_grid g b ≡ None
   read_top e = read_fields 2047 e ∙ fields_top g (negative b) (digits b)
 
   -- ---- the three ranges of the exponent's field
 
   -- q * 2 ^ x is less than one step where the digits of q, x and g come to no more than 1074
-  small : (n q x : ℕ) → 0 < q → q < 2 ^ n → n + x + g ≤ 1074 → place_of_steps (origin_of_grid g) (negative b) (q * 2 ^ x * 2 ^ g) (2 ^ 1074) ≡ Off
+  small : (n q x : ℕ) → 0 < q → q < 2 ^ n → n + x + g ≤ 1074 → place_of_steps (origin_of_grid g) (negative b) (q * 2 ^ x * 2 ^ g) (2 ^ 1074) ≡ None
   small n q x p h k =
       under_one (origin_of_grid g) (negative b) (q * 2 ^ x * 2 ^ g) (2 ^ 1074) (mul-pos (mul-pos p (pow_pos x)) (pow_pos g))
       (lt_of_lt_of_le (shl_lt (n + x) g (shl_lt n x h)) (pow_mono k))
 
-  pub read_below : b < 2 ^ 64 → (b % 2 ^ 63 ≡ 0 → ⊥) → exponent b + g < 1023 → read_on_grid g b ≡ Off
+  pub read_below : b < 2 ^ 64 → (b % 2 ^ 63 ≡ 0 → ⊥) → exponent b + g < 1023 → read_on_grid g b ≡ None
   read_below B some h = go (exponent b) (digits b) refl refl
     where
-      go : (x t : ℕ) → exponent b ≡ x → digits b ≡ t → read_on_grid g b ≡ Off
+      go : (x t : ℕ) → exponent b ≡ x → digits b ≡ t → read_on_grid g b ≡ None
       go zero zero e d = absurd (omega arith)
       go zero (suc t) e d = read_low e ∙ small 52 (digits b) 0 (omega arith) (omega arith) (omega arith)
       go (suc x) t e d = read_mid x e (omega arith) ∙ small 53 (2 ^ 52 + digits b) x (omega arith) (omega arith) (omega arith)
 
-  pub read_above : 1035 < exponent b → read_on_grid g b ≡ Off
+  pub read_above : 1035 < exponent b → read_on_grid g b ≡ None
   read_above h = go (exponent b) refl
     where
       big : (x : ℕ) → 1035 ≤ x → origin_of_grid g < (2 ^ 52 + digits b) * 2 ^ x * 2 ^ g / 2 ^ 1074
@@ -108,7 +108,7 @@ module _ (g b : ℕ) where
           (le_trans (le_of_eq (pow-add 2 (52 + x) g ∙ ap (λ (n : ℕ). n * 2 ^ g) (pow-add 2 52 x)))
           (mul-le-mul_right (2 ^ g) (mul-le-mul_right (2 ^ x) (omega arith)))))))
 
-      go : (x : ℕ) → exponent b ≡ x → read_on_grid g b ≡ Off
+      go : (x : ℕ) → exponent b ≡ x → read_on_grid g b ≡ None
       go zero e = absurd (omega arith)
       go (suc x) e =
           elim (eq-or-lt_of_le (le_top x e)) [

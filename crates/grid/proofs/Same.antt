@@ -1,4 +1,5 @@
 -- The place of ±a / c steps turns on the number a / c alone, and not on how it is written. Assumes nothing.
+use Rattle.std.specs.Prelude.{Some, None}
 use mathlib.Core.Path.{◌≡◌, refl, sym, ap, ◌∙◌}
 use Prim.Native.Nat.{ℕ, ◌+◌, ◌-◌, ◌*◌, ◌/◌, ◌%◌, ◌^◌, ◌≤◌, ◌<◌}
 use native.Mathlib.Nat.{mul_comm, mul_right_comm, mul-div-mul_right, mul-mod_left, div-add-mod', eq_of_mul-eq-mul_right, add-zero}
@@ -8,7 +9,6 @@ use lib.Ieee.{Float, nan, inf, fin, up, down}
 use lib.Ieee.Exact.{HasValue}
 use borrow.Author.Tests.{le-leb, eq-eqb}
 use lib.Ieee.Fits.{and_l, and_r, eq→eqb, down_pos}
-use Rattle.grid.specs.declared.Place.TheVariants.{On, Off}
 use Rattle.grid.specs.Grid.{origin_of_grid, place_of_steps, place_on_grid}
 
 pub same_test : (t u : Bool) → (T t → T u) → (T u → T t) → t ≡ u
@@ -55,7 +55,7 @@ place_of_value g (fin t m e) s a c C v =
 
 -- ---- what it takes to be at a place
 
-pub at_place : (o : ℕ) (s : Bool) (a c : ℕ) → a % c ≡ 0 → a / c ≤ o → place_of_steps o s a c ≡ On (cond s (o - a / c) (o + a / c))
+pub at_place : (o : ℕ) (s : Bool) (a c : ℕ) → a % c ≡ 0 → a / c ≤ o → place_of_steps o s a c ≡ Some (cond s (o - a / c) (o + a / c))
 at_place o s a c w h = simp (eq-eqb (a % c) 0 w, le-leb (a / c) o h)
 
 -- what check 7 found of ±a / c steps that it put at p
@@ -64,10 +64,10 @@ pub record Passed (o : ℕ) (s : Bool) (a c p : ℕ) : Type 0 where
   pub near : a / c ≤ o
   pub is : p ≡ cond s (o - a / c) (o + a / c)
 
-pub passed : (o : ℕ) (s : Bool) (a c p : ℕ) → place_of_steps o s a c ≡ On p → Passed o s a c p
+pub passed : (o : ℕ) (s : Bool) (a c p : ℕ) → place_of_steps o s a c ≡ Some p → Passed o s a c p
 passed o s a c p h = go (eqb (a % c) 0 && leb (a / c) o) (λ t. t) h
   where
-    go : (t : Bool) → (T t → T (eqb (a % c) 0 && leb (a / c) o)) → cond t (On (cond s (o - a / c) (o + a / c))) Off ≡ On p → Passed o s a c p
+    go : (t : Bool) → (T t → T (eqb (a % c) 0 && leb (a / c) o)) → cond t (Some (cond s (o - a / c) (o + a / c))) None ≡ Some p → Passed o s a c p
     go true k e =
         let w = eqb (a % c) 0 in
         let n = leb (a / c) o in

@@ -4,11 +4,11 @@
 ghost use Rattle.std.specs.Prelude.{◌≡◌};
 ghost use Rattle.grid.specs.Grid.{read_place, place_at, on_grid, clean, coordinate, write_place};
 
-// Where a coordinate lies: so many grid steps from -4,096, or not on the grid.
-#[derive(Clone, Copy)]
-pub enum Place {
-    On(u32),
-    Off,
+// A point by its places: so many grid steps from -4,096, along and across.
+#[derive(Clone, Copy, PartialEq, Eq)]
+pub struct Point {
+    pub x: u32,
+    pub y: u32,
 }
 
 // The place of 0: 4,096 in steps of 1/1,024.
@@ -33,38 +33,38 @@ const LARGEST: u64 = 1035;
 // The field at which all 52 digits below the leading one count whole steps.
 const ALL_WHOLE: u64 = 1065;
 
-// Check 7, for every pattern: the place, or Off. Below the field of one step nothing but 0 is a whole
+// Check 7, for every pattern: the place, so many grid steps from -4,096, or none. Below the field of one step nothing but 0 is a whole
 // number of steps, and 0 is at the origin, whatever its sign. Above that of the largest coordinate all
 // is too large. In between, the digits with the leading one are shifted down to whole steps, and what
 // is shifted out must be 0. A zero is not asked for first of all, since most coordinates are not 0.
-pub fn read_place(bits: u64) -> Place
+pub fn read_place(bits: u64) -> Option<u32>
     ensures { result ≡ read_place bits }
 {
     let field = bits / LEADING % 2048;
     if field < ONE_STEP {
         if bits % SIGN == 0 {
-            return Place::On(ORIGIN);
+            return Some(ORIGIN);
         }
-        return Place::Off;
+        return None;
     }
     if field > LARGEST {
-        return Place::Off;
+        return None;
     }
     let digits = LEADING + bits % LEADING;
     let below = ALL_WHOLE - field;
     let steps = digits >> below;
     if steps << below != digits {
-        return Place::Off;
+        return None;
     }
     if steps > ORIGIN as u64 {
-        return Place::Off;
+        return None;
     }
     let count = steps as u32;
     let positive = bits < SIGN;
     if positive {
-        Place::On(ORIGIN + count)
+        Some(ORIGIN + count)
     } else {
-        Place::On(ORIGIN - count)
+        Some(ORIGIN - count)
     }
 }
 
@@ -72,20 +72,14 @@ pub fn read_place(bits: u64) -> Place
 pub fn on_grid(bits: u64) -> bool
     ensures { result ≡ on_grid (read_place bits) }
 {
-    match read_place(bits) {
-        Place::On(_) => true,
-        Place::Off => false,
-    }
+    read_place(bits).is_some()
 }
 
 // A place as one number.
-pub fn place_number(place: Place) -> u32
+pub fn place_number(place: Option<u32>) -> u32
     ensures { result ≡ place_at place }
 {
-    match place {
-        Place::On(at) => at,
-        Place::Off => NOWHERE,
-    }
+    place.unwrap_or(NOWHERE)
 }
 
 // A pattern with plain zero for minus zero, which is how a coordinate is saved.

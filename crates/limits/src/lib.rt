@@ -3,6 +3,7 @@
 #![tactic(auto)]
 
 ghost use Rattle.std.specs.Prelude.{◌≡◌};
+ghost use Rattle.limits.specs.Refused.{number_of};
 ghost use Rattle.limits.specs.Tied.{layout_is, limits_are, refusals_are};
 
 // Check 1: the bytes of a file.
@@ -102,6 +103,51 @@ pub const REFUSED_OWN_LINKS: u8 = 15;
 
 // The writer's: a destination that is too short for the file.
 pub const REFUSED_DESTINATION: u8 = 16;
+
+// Why a file, a drawing or a plan is refused, in the order of the checks.
+#[derive(Clone, Copy, PartialEq, Eq)]
+pub enum Refusal {
+    Bytes,
+    Cut,
+    Kinds,
+    Lengths,
+    Settings,
+    Counts,
+    OwnLinks,
+    Coordinates,
+    Links,
+    Apart,
+    Tables,
+    Path,
+    Edges,
+    Output,
+    Destination,
+}
+
+impl Refusal {
+    // The document's number of the refusal.
+    pub fn number(self) -> u8
+        ensures { result ≡ number_of self }
+    {
+        match self {
+            Refusal::Bytes => REFUSED_BYTES,
+            Refusal::Cut => REFUSED_CUT,
+            Refusal::Kinds => REFUSED_KINDS,
+            Refusal::Lengths => REFUSED_LENGTHS,
+            Refusal::Settings => REFUSED_SETTINGS,
+            Refusal::Counts => REFUSED_COUNTS,
+            Refusal::OwnLinks => REFUSED_OWN_LINKS,
+            Refusal::Coordinates => REFUSED_COORDINATES,
+            Refusal::Links => REFUSED_LINKS,
+            Refusal::Apart => REFUSED_APART,
+            Refusal::Tables => REFUSED_TABLES,
+            Refusal::Path => REFUSED_PATH,
+            Refusal::Edges => REFUSED_EDGES,
+            Refusal::Output => REFUSED_OUTPUT,
+            Refusal::Destination => REFUSED_DESTINATION,
+        }
+    }
+}
 
 #[derive(Clone, Copy)]
 pub struct Layout {

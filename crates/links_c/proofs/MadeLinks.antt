@@ -12,16 +12,15 @@ use Rattle.drawing_spec.specs.OnGrid.{OnGrid}
 use Rattle.drawing_spec.proofs.OnGrid.{lines_on}
 use Rattle.drawing_spec.specs.Accepted.{Counts}
 use Rattle.drawing_spec.proofs.Accepted.{passed_counts}
-use Rattle.drawing_spec.specs.Refusal as refusal
-use Rattle.drawing_spec.specs.Read.{records_of, drawing_of, read_conditions}
+use Rattle.drawing_spec.specs.Read.{records_of, drawing_of}
 use Rattle.file_records.specs.declared.MstEdge.{MstEdge}
 use Rattle.file_records.specs.Body.{edge_from}
 use Rattle.file_drawing.specs.declared.Drawing.{Drawing}
 use Rattle.file_drawing.specs.Held.{no_link, past_end, drawing_held}
 use Rattle.file_drawing.specs.Back.{drawing_from}
-use Rattle.file.specs.declared.Reading.{Reading}
-use Rattle.file.specs.declared.Verdict.TheVariants.{Accepted, Refused}
-use Rattle.file.specs.Reading.{verdict_from, reading_of}
+use Rattle.limits.specs.Refused.{number_of}
+use Rattle.limits.specs.declared.Refusal.{Refusal}
+use Rattle.file.specs.Reading.{Accepted, Refused}
 use Rattle.file.proofs.ReadingLaws.{taken, accepted_drawing}
 use Rattle.links_spec.specs.Made.{to_plan}
 use Rattle.links_made.specs.Linkable.{Linkable}
@@ -63,40 +62,25 @@ module _ (d : Drawing) (L : Linkable d) (r : Drawing) (e : r ≡ drawing_held (t
 
 -- ---- of a file
 
-module _ (file : List ℕ) (j : ℕ) (r : Reading) (is : r ≡ reading_of file) where
-  read_verdict : verdict_from (refusal.verdict (read_conditions file)) ≡ r.verdict
-  unfolding reading_of
-  read_verdict = ap (λ (x : Reading). x.verdict) (sym is)
-
-  pub refused_link : (k : ℕ) → r.verdict ≡ Refused k → with_link k 0 no_link ≡ made_link_of file j
+module _ (file : List ℕ) (j : ℕ) where
+  pub refused_link : (r : Refusal) → Refused file r → with_link (number_of r) 0 no_link ≡ made_link_of file j
   unfolding made_link_of
-  refused_link k h = go (refusal.verdict (read_conditions file)) refl (read_verdict ∙ h)
-    where
-      go : (v : refusal.Verdict) → refusal.verdict (read_conditions file) ≡ v → verdict_from v ≡ Refused k → with_link k 0 no_link ≡ made_link_of file j
-      go (refusal.refused n) q e = let same : k ≡ n = cc in rw (q, made_link_of) (ap (λ (m : ℕ). with_link m 0 no_link) same)
-      go refusal.accepted q e = absurd (let z : ◌≡◌ {A = ℕ} 0 1 = cc in omega arith)
+  refused_link r h = rw (h, made_link_of)
 
-  module _ (h : r.verdict ≡ Accepted) where
-    read_accepted : (reading_of file).verdict ≡ Accepted
-    read_accepted = ap (λ (x : Reading). x.verdict) (sym is) ∙ h
+  module _ (d : Drawing) (a : Accepted file d) where
+    drawing_is : drawing_from d ≡ drawing_of (records_of file)
+    drawing_is = accepted_drawing file d a
 
-    drawing_is : drawing_from r.drawing ≡ drawing_of (records_of file)
-    drawing_is = ap (λ (x : Reading). drawing_from x.drawing) is ∙ accepted_drawing file read_accepted
-
-    pub accepted_linkable : Linkable r.drawing
+    pub accepted_linkable : Linkable d
     accepted_linkable =
-        let t = taken file read_accepted in
+        let t = taken file d a in
         let back = sym drawing_is in
         record {
-          held = ap (λ (x : Reading). x.drawing) is ∙ t.drawing_is ∙ ap drawing_held back;
+          held = t.drawing_is ∙ ap drawing_held back;
           counts = subst Counts back (passed_counts file t.passes);
           lines_on = subst (λ (d : drawn.Drawing). All (All OnGrid) d.lines) back (lines_on (records_of file) t.passes.on_grid);
         }
 
-    pub accepted_link : (m : MadeLink) → m ≡ link_of (to_plan (drawing_from r.drawing)) j → m ≡ made_link_of file j
+    pub accepted_link : (m : MadeLink) → m ≡ link_of (to_plan (drawing_from d)) j → m ≡ made_link_of file j
     unfolding made_link_of
-    accepted_link m e = go (refusal.verdict (read_conditions file)) refl (read_verdict ∙ h)
-      where
-        go : (v : refusal.Verdict) → refusal.verdict (read_conditions file) ≡ v → verdict_from v ≡ Accepted → m ≡ made_link_of file j
-        go (refusal.refused n) q x = absurd (let z : ◌≡◌ {A = ℕ} 0 1 = cc in omega arith)
-        go refusal.accepted q x = rw (q, made_link_of) (e ∙ ap (λ (d : drawn.Drawing). link_of (to_plan d) j) drawing_is)
+    accepted_link m e = rw (a.verdict_is, made_link_of) (e ∙ ap (λ (d : drawn.Drawing). link_of (to_plan d) j) drawing_is)

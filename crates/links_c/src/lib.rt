@@ -8,7 +8,6 @@ ghost use Rattle.links_made.specs.Linkable.{Linkable};
 ghost use Rattle.file_drawing.specs.Held.{no_link};
 ghost use Rattle.links_c.specs.MadeLinks.{with_link, link_of, made_link_of};
 
-use file::Verdict;
 use file_drawing::Drawing;
 
 // The number of a refusal and zeros; or 0 with the number of links, and of one of them both ends: line, segment and place. Zeros where there is no such link.
@@ -51,20 +50,18 @@ fn link_of(drawing: Drawing, j: u32) -> MadeLink
     ensures { result ≡ link_of (to_plan (drawing_from drawing)) j }
 {
     let planned = links_made::to_plan(drawing);
-    let count = planned.link_count;
-    let links = count as u32;
+    let links = planned.link_count as u32;
     if links <= j {
         return no_link(0, links);
     }
-    let edges = planned.links;
-    let edge = edges[j as usize];
+    let edge = planned.links[j as usize];
     MadeLink {
         refusal: 0,
         links,
-        first_line: edge.poly_a as u32,
-        first_segment: edge.seg_a as u32,
-        second_line: edge.poly_b as u32,
-        second_segment: edge.seg_b as u32,
+        first_line: u32::from(edge.poly_a),
+        first_segment: u32::from(edge.seg_a),
+        second_line: u32::from(edge.poly_b),
+        second_segment: u32::from(edge.seg_b),
         first_x: edge.point_a.x,
         first_y: edge.point_a.y,
         second_x: edge.point_b.x,
@@ -77,13 +74,8 @@ fn link_of(drawing: Drawing, j: u32) -> MadeLink
 pub extern "C" fn made_link(file: &[u8], j: u32) -> MadeLink
     ensures { result ≡ made_link_of file.now j }
 {
-    let reading = file::read(file);
-    let verdict = reading.verdict;
-    match verdict {
-        Verdict::Refused(number) => no_link(number as u32, 0),
-        Verdict::Accepted => {
-            let drawing = reading.drawing;
-            link_of(drawing, j)
-        }
+    match file::read(file) {
+        Ok(drawing) => link_of(drawing, j),
+        Err(refusal) => no_link(u32::from(refusal.number()), 0),
     }
 }

@@ -3,7 +3,7 @@ use mathlib.Core.Path.{◌≡◌, refl, sym, ap, ◌∙◌}
 use mathlib.Core.Logic.{inl, inr}
 use mathlib.Core.List.{List, [], ◌∷◌, map}
 use mathlib.Core.Bool.{Bool, true, false, false≢true}
-use Prim.Native.Nat.{ℕ, zero, suc, ◌+◌, ◌-◌, ◌*◌, ◌/◌, ◌%◌, ◌≤◌, ◌<◌}
+use Prim.Native.Nat.{ℕ, zero, suc, ◌+◌, ◌-◌, ◌/◌, ◌%◌, ◌≤◌, ◌<◌}
 use native.Mathlib.Nat.{not-suc-le-zero}
 use native.Mathlib.Numerals.{add-one}
 use native.Mathlib.Omega.{arith}
@@ -24,11 +24,13 @@ use Rattle.links_spec.specs.Made.{made, as_link, made_links}
 use Rattle.links_spec.proofs.Candidates.{there}
 use Rattle.links_spec.proofs.Made.{made_links_all}
 use Rattle.links_spec.proofs.Same.{made_same}
-use Rattle.links_tree.specs.Packed.{EndsOn, AreCodes, candidate_of, point_in, is_marked, end_lines}
+use Rattle.links_tree.specs.declared.Ends.{Ends}
+use Rattle.links_tree.specs.declared.Ranked.{Ranked}
+use Rattle.links_tree.specs.Packed.{AreCodes, candidate_in, point_of, ranked, ranked_at, end_in, is_marked, end_lines}
 use Rattle.links_tree.proofs.Cases.{less_or}
 use Rattle.links_tree.proofs.Marks.{marked_in, is_marked_lem}
 use Rattle.links_tree.proofs.Agree.{lines_length, has_points_lem, line_two}
-use Rattle.links_made.specs.Filled.{Marked, Ended, segment_in, edge_in}
+use Rattle.links_made.specs.Filled.{place_in, Marked, Ended, segment_in, edge_in}
 
 -- ---- lines read off flat arrays
 
@@ -37,11 +39,11 @@ unfolding points_back
 points_long zero k xs ys = refl
 points_long (suc n) k xs ys = ap suc (points_long n (suc k) xs ys)
 
-points_at : (n k i : ℕ) (xs ys : List ℕ) → i < n → get_or (points_back n k xs ys) i no_point ≡ point_in xs ys (k + i)
+points_at : (n k i : ℕ) (xs ys : List ℕ) → i < n → get_or (points_back n k xs ys) i no_point ≡ point_of (place_in xs ys (k + i))
 unfolding points_back
 points_at zero k i xs ys h = absurd (not-suc-le-zero h)
-points_at (suc n) k zero xs ys h = let q : k ≡ k + 0 = omega arith in ap (point_in xs ys) q
-points_at (suc n) k (suc i) xs ys h = let q : suc k + i ≡ k + suc i = omega arith in points_at n (suc k) i xs ys (omega arith) ∙ ap (point_in xs ys) q
+points_at (suc n) k zero xs ys h = let q : k ≡ k + 0 = omega arith in ap (λ (j : ℕ). point_of (place_in xs ys j)) q
+points_at (suc n) k (suc i) xs ys h = let q : suc k + i ≡ k + suc i = omega arith in points_at n (suc k) i xs ys (omega arith) ∙ ap (λ (j : ℕ). point_of (place_in xs ys j)) q
 
 lines_long : (n i : ℕ) (starts xs ys : List ℕ) → length (lines_back n i starts xs ys) ≡ n
 unfolding lines_back
@@ -69,7 +71,7 @@ any_end : (ps : List Point) (e : ℕ) → end_point ps (suc e) ≡ end_point ps 
 unfolding end_point
 any_end ps e = refl
 
-module _ (n : ℕ) (starts xs ys has exs eys : List ℕ) (M : Marked starts has n) (EX : Ended starts xs exs n) (EY : Ended starts ys eys n) where
+module _ (n : ℕ) (starts xs ys : List ℕ) (has : List Bool) (es : List Ends) (M : Marked starts has n) (E : Ended starts xs ys es n) where
   abbrev drawn : List (List Point)
   drawn = lines_back n 0 starts xs ys
 
@@ -86,31 +88,30 @@ module _ (n : ℕ) (starts xs ys has exs eys : List ℕ) (M : Marked starts has 
   some_points : (l : ℕ) → is_marked n has l ≡ true → (l < n) × (get_or starts l 0 < get_or starts (l + 1) 0)
   some_points l o =
       let p = marked_in n has l o in
-      (p.0, elim (less_or (get_or starts l 0) (get_or starts (l + 1) 0)) [ inl h ↦ h | inr h ↦ absurd (p.1 (M.none l p.0 h)) ])
+      (p.0, elim (less_or (get_or starts l 0) (get_or starts (l + 1) 0)) [ inl h ↦ h | inr h ↦ absurd (false≢true (sym (M.none l p.0 h) ∙ p.1)) ])
 
   has_same : (l : ℕ) → has_points drawn l ≡ is_marked n has l
   unfolding has_points
   has_same l = same_tests (has_points drawn l) (is_marked n has l)
       (λ h.
       let b : l < n = rw (lines_long n 0 starts xs ys) at (there drawn l h) in
-      is_marked_lem n has l b (λ e. let some = M.some l b (omega (arith, drawn_long l b, ltb-true 0 (length (line_at drawn l)) h)) in omega (arith, some)))
+      is_marked_lem n has l b (M.some l b (omega (arith, drawn_long l b, ltb-true 0 (length (line_at drawn l)) h))))
       (λ o. let p = some_points l o in lt-ltb 0 (length (line_at drawn l)) (omega (arith, drawn_long l p.0, p.1)))
 
   -- the ends of a line with points are those taken out
-  drawn_end : (l e : ℕ) → is_marked n has l ≡ true → e < 2 → end_point (line_at drawn l) e ≡ point_in exs eys (l * 2 + e)
+  drawn_end : (l e : ℕ) → is_marked n has l ≡ true → e < 2 → end_point (line_at drawn l) e ≡ end_in es l e
   unfolding end_point
   drawn_end l zero o b =
       let p = some_points l o in
-      let q : l * 2 ≡ l * 2 + 0 = omega arith in
       let z : get_or starts l 0 + 0 ≡ get_or starts l 0 = omega arith in
-      ap (λ (ps : List Point). get_or ps 0 no_point) (drawn_at_lem l p.0) ∙ points_at (get_or starts (l + 1) 0 - get_or starts l 0) (get_or starts l 0) 0 xs ys (omega (arith, p.1)) ∙ ap (point_in xs ys) z
-      ∙ (λ i. record { x = sym (EX.first l p.0 p.1) i; y = sym (EY.first l p.0 p.1) i }) ∙ ap (point_in exs eys) q
+      ap (λ (ps : List Point). get_or ps 0 no_point) (drawn_at_lem l p.0) ∙ points_at (get_or starts (l + 1) 0 - get_or starts l 0) (get_or starts l 0) 0 xs ys (omega (arith, p.1))
+      ∙ ap (λ (j : ℕ). point_of (place_in xs ys j)) z ∙ ap point_of (sym (E.first l p.0 p.1))
   drawn_end l (suc zero) o b =
       let p = some_points l o in
       let z : get_or starts l 0 + (length (line_at drawn l) - 1) ≡ get_or starts (l + 1) 0 - 1 = omega (arith, drawn_long l p.0, p.1) in
       ap (λ (ps : List Point). get_or ps (length (line_at drawn l) - 1) no_point) (drawn_at_lem l p.0)
-      ∙ points_at (get_or starts (l + 1) 0 - get_or starts l 0) (get_or starts l 0) (length (line_at drawn l) - 1) xs ys (omega (arith, drawn_long l p.0, p.1)) ∙ ap (point_in xs ys) z
-      ∙ (λ i. record { x = sym (EX.last l p.0 p.1) i; y = sym (EY.last l p.0 p.1) i })
+      ∙ points_at (get_or starts (l + 1) 0 - get_or starts l 0) (get_or starts l 0) (length (line_at drawn l) - 1) xs ys (omega (arith, drawn_long l p.0, p.1))
+      ∙ ap (λ (j : ℕ). point_of (place_in xs ys j)) z ∙ ap point_of (sym (E.last l p.0 p.1))
   drawn_end l (suc (suc e)) o b = absurd (omega arith)
 
   no_points : (ls : List (List Point)) (l : ℕ) → has_points ls l ≡ false → line_at ls l ≡ []
@@ -121,19 +122,19 @@ module _ (n : ℕ) (starts xs ys has exs eys : List ℕ) (M : Marked starts has 
       go [] e = refl
       go (p ∷ ps) e = absurd (false≢true (sym e ∙ lt-ltb 0 (suc (length ps)) (omega arith)))
 
-  ends_same : (l e : ℕ) → end_point (line_at drawn l) e ≡ end_point (line_at (end_lines n has exs eys) l) e
+  ends_same : (l e : ℕ) → end_point (line_at drawn l) e ≡ end_point (line_at (end_lines n has es) l) e
   ends_same l e = go (is_marked n has l) refl e
     where
-      two : is_marked n has l ≡ true → (e : ℕ) → end_point (point_in exs eys (l * 2) ∷ point_in exs eys (l * 2 + 1) ∷ []) e ≡ end_point (line_at (end_lines n has exs eys) l) e
-      two o e = ap (λ (ps : List Point). end_point ps e) (sym (line_two n has exs eys l o))
+      two : is_marked n has l ≡ true → (e : ℕ) → end_point (end_in es l 0 ∷ end_in es l 1 ∷ []) e ≡ end_point (line_at (end_lines n has es) l) e
+      two o e = ap (λ (ps : List Point). end_point ps e) (sym (line_two n has es l o))
 
-      go : (t : Bool) → is_marked n has l ≡ t → (e : ℕ) → end_point (line_at drawn l) e ≡ end_point (line_at (end_lines n has exs eys) l) e
-      go true o zero = let q : l * 2 + 0 ≡ l * 2 = omega arith in drawn_end l 0 o (omega arith) ∙ ap (point_in exs eys) q ∙ first_of_two (point_in exs eys (l * 2)) (point_in exs eys (l * 2 + 1)) ∙ two o 0
-      go true o (suc e) = any_end (line_at drawn l) e ∙ drawn_end l 1 o (omega arith) ∙ last_of_two (point_in exs eys (l * 2)) (point_in exs eys (l * 2 + 1)) e ∙ two o (suc e)
-      go false o e = ap (λ (ps : List Point). end_point ps e) (no_points drawn l (has_same l ∙ o) ∙ sym (no_points (end_lines n has exs eys) l (has_points_lem n has exs eys l ∙ o)))
+      go : (t : Bool) → is_marked n has l ≡ t → (e : ℕ) → end_point (line_at drawn l) e ≡ end_point (line_at (end_lines n has es) l) e
+      go true o zero = drawn_end l 0 o (omega arith) ∙ first_of_two (end_in es l 0) (end_in es l 1) ∙ two o 0
+      go true o (suc e) = any_end (line_at drawn l) e ∙ drawn_end l 1 o (omega arith) ∙ last_of_two (end_in es l 0) (end_in es l 1) e ∙ two o (suc e)
+      go false o e = ap (λ (ps : List Point). end_point ps e) (no_points drawn l (has_same l ∙ o) ∙ sym (no_points (end_lines n has es) l (has_points_lem n has es l ∙ o)))
 
-  pub made_drawn : made drawn ≡ made (end_lines n has exs eys)
-  made_drawn = made_same drawn (end_lines n has exs eys) (lines_long n 0 starts xs ys ∙ sym (lines_length n has exs eys)) (λ l. has_same l ∙ sym (has_points_lem n has exs eys l)) ends_same
+  pub made_drawn : made drawn ≡ made (end_lines n has es)
+  made_drawn = made_same drawn (end_lines n has es) (lines_long n 0 starts xs ys ∙ sym (lines_length n has es)) (λ l. has_same l ∙ sym (has_points_lem n has es l)) ends_same
 
   -- ---- a candidate as a link
 
@@ -142,9 +143,10 @@ module _ (n : ℕ) (starts xs ys has exs eys : List ℕ) (M : Marked starts has 
   segment_same l zero h = refl
   segment_same l (suc e) h = ap (λ (m : ℕ). m - 2) (sym (drawn_long l h))
 
-  edge_drawn : (c : ℕ) → IsCandidate drawn (candidate_of c) → edge_in starts exs eys c ≡ edge_from (as_link drawn (candidate_of c))
+  edge_drawn : (r : Ranked) → IsCandidate drawn (candidate_in r) → edge_in starts es r ≡ edge_from (as_link drawn (candidate_in r))
   unfolding edge_in as_link
-  edge_drawn c C =
+  edge_drawn r C =
+      let c = r.code in
       let ol : is_marked n has (c / 1024) ≡ true = sym (has_same (c / 1024)) ∙ C.low_there in
       let oh : is_marked n has (c / 4 % 256) ≡ true = sym (has_same (c / 4 % 256)) ∙ C.high_there in
       let a = sym (drawn_end (c / 1024) (c / 2 % 2) ol C.low_end) in
@@ -153,52 +155,49 @@ module _ (n : ℕ) (starts xs ys has exs eys : List ℕ) (M : Marked starts has 
       let t = segment_same (c / 4 % 256) (c % 2) (marked_in n has (c / 4 % 256) oh).0 in
       λ i. record { poly_a = c / 1024; seg_a = s i; poly_b = c / 4 % 256; seg_b = t i; point_a = point_from (a i); point_b = point_from (b i) }
 
-  edges_drawn : (cs : List ℕ) → All (IsCandidate drawn) (map candidate_of cs) → map (edge_in starts exs eys) cs ≡ map edge_from (map (as_link drawn) (map candidate_of cs))
+  edges_drawn : (rs : List Ranked) → All (IsCandidate drawn) (map candidate_in rs) → map (edge_in starts es) rs ≡ map edge_from (map (as_link drawn) (map candidate_in rs))
   edges_drawn [] a = refl
-  edges_drawn (c ∷ cs) a = λ i. edge_drawn c a.0 i ∷ edges_drawn cs a.1 i
+  edges_drawn (r ∷ rs) a = λ i. edge_drawn r a.0 i ∷ edges_drawn rs a.1 i
 
   -- what was found, as links
-  pub links_drawn : (cs : List ℕ) → map candidate_of cs ≡ made (end_lines n has exs eys) → map (edge_in starts exs eys) cs ≡ map edge_from (made_links drawn)
+  pub links_drawn : (rs : List Ranked) → map candidate_in rs ≡ made (end_lines n has es) → map (edge_in starts es) rs ≡ map edge_from (made_links drawn)
   unfolding made_links
-  links_drawn cs e =
-      let m : map candidate_of cs ≡ made drawn = e ∙ sym made_drawn in
-      edges_drawn cs (rw m (made_links_all drawn).are) ∙ ap (λ (ks : List Candidate). map edge_from (map (as_link drawn) ks)) m
+  links_drawn rs e =
+      let m : map candidate_in rs ≡ made drawn = e ∙ sym made_drawn in
+      edges_drawn rs (rw m (made_links_all drawn).are) ∙ ap (λ (ks : List Candidate). map edge_from (map (as_link drawn) ks)) m
 
-  pub links_count : (cs : List ℕ) → map candidate_of cs ≡ made (end_lines n has exs eys) → length cs ≡ length (made_links drawn)
+  pub links_count : (rs : List Ranked) → map candidate_in rs ≡ made (end_lines n has es) → length rs ≡ length (made_links drawn)
   unfolding made_links
-  links_count cs e = sym (length-map cs candidate_of) ∙ ap length (e ∙ sym made_drawn) ∙ sym (length-map (made drawn) (as_link drawn))
+  links_count rs e = sym (length-map rs candidate_in) ∙ ap length (e ∙ sym made_drawn) ∙ sym (length-map (made drawn) (as_link drawn))
 
 -- ---- the loop that writes them
 
-module _ (f : ℕ → MstEdge) (found : List ℕ) (count : ℕ) where
+module _ (f : Ranked → MstEdge) (found : List Ranked) (count : ℕ) where
   abbrev pub writing : List MstEdge → ℕ → List MstEdge
   writing edges j = sets edges j (map f (drop j (take count found)))
 
-  pub writing_turn : (edges : List MstEdge) (j : ℕ) (e : MstEdge) → j < count → count ≤ length found → e ≡ f (get_or found j 0) → writing (set edges j e) (j + 1) ≡ writing edges j
+  pub writing_turn : (edges : List MstEdge) (j : ℕ) (e : MstEdge) → j < count → count ≤ length found → e ≡ f (ranked_at found j) → writing (set edges j e) (j + 1) ≡ writing edges j
   writing_turn edges j e l long h =
-      let rest : drop j (take count found) ≡ get_or found j 0 ∷ drop (suc j) (take count found)
-      = drop-cons (take count found) j 0 (omega (arith, length-take-le count found long)) ∙ ap (λ (c : ℕ). c ∷ drop (suc j) (take count found)) (get_or-take count found j 0 l) in
+      let rest : drop j (take count found) ≡ ranked_at found j ∷ drop (suc j) (take count found)
+      = drop-cons (take count found) j (ranked 0 0) (omega (arith, length-take-le count found long)) ∙ ap (λ (r : Ranked). r ∷ drop (suc j) (take count found)) (get_or-take count found j (ranked 0 0) l) in
       ap (λ (k : ℕ). sets (set edges j e) k (map f (drop k (take count found)))) (add-one j)
       ∙ ap (λ (x : MstEdge). sets (set edges j x) (suc j) (map f (drop (suc j) (take count found)))) h
-      ∙ sym (ap (λ (cs : List ℕ). sets edges j (map f cs)) rest)
+      ∙ sym (ap (λ (rs : List Ranked). sets edges j (map f rs)) rest)
 
   pub writing_end : (edges : List MstEdge) (j : ℕ) → count ≤ j → j ≤ count → count ≤ length found → edges ≡ writing edges j
   writing_end edges j a b long =
       let e : j ≡ count = omega arith in
       let none : drop count (take count found) ≡ [] = ap (λ (k : ℕ). drop k (take count found)) (sym (length-take-le count found long)) ∙ drop-length (take count found) in
-      sym (ap (λ (k : ℕ). sets edges k (map f (drop k (take count found)))) e ∙ ap (λ (cs : List ℕ). sets edges count (map f cs)) none)
+      sym (ap (λ (k : ℕ). sets edges k (map f (drop k (take count found)))) e ∙ ap (λ (rs : List Ranked). sets edges count (map f rs)) none)
 
   pub writing_start : (e : MstEdge) → e ≡ no_link → writing (replicate most_links e) 0 ≡ sets (replicate most_links no_link) 0 (map f (take count found))
   writing_start e z = ap (λ (x : MstEdge). sets (replicate most_links x) 0 (map f (take count found))) z
 
-pub ends_on : (starts xs ys exs eys : List ℕ) (n : ℕ) → Ended starts xs exs n → Ended starts ys eys n → EndsOn exs eys
-ends_on starts xs ys exs eys n X Y = record { xs_on = X.on.on; ys_on = Y.on.on }
-
 -- what `make_links` answers
-module _ (n : ℕ) (starts xs ys has exs eys : List ℕ) (M : Marked starts has n) (EX : Ended starts xs exs n) (EY : Ended starts ys eys n)
-    (found : List ℕ) (count : ℕ) (C : AreCodes count found) (e : map candidate_of (take count found) ≡ made (end_lines n has exs eys)) where
+module _ (n : ℕ) (starts xs ys : List ℕ) (has : List Bool) (es : List Ends) (M : Marked starts has n) (E : Ended starts xs ys es n)
+    (found : List Ranked) (count : ℕ) (C : AreCodes count found) (e : map candidate_in (take count found) ≡ made (end_lines n has es)) where
   pub count_answer : count ≡ length (made_links (lines_back n 0 starts xs ys))
-  count_answer = sym (length-take-le count found (omega (arith, C.few, C.long))) ∙ links_count n starts xs ys has exs eys M EX EY (take count found) e
+  count_answer = sym (length-take-le count found (omega (arith, C.few, C.long))) ∙ links_count n starts xs ys has es M E (take count found) e
 
-  pub links_answer : (r : List MstEdge) → r ≡ sets (replicate most_links no_link) 0 (map (edge_in starts exs eys) (take count found)) → r ≡ sets (replicate most_links no_link) 0 (map edge_from (made_links (lines_back n 0 starts xs ys)))
-  links_answer r h = h ∙ ap (λ (es : List MstEdge). sets (replicate most_links no_link) 0 es) (links_drawn n starts xs ys has exs eys M EX EY (take count found) e)
+  pub links_answer : (r : List MstEdge) → r ≡ sets (replicate most_links no_link) 0 (map (edge_in starts es) (take count found)) → r ≡ sets (replicate most_links no_link) 0 (map edge_from (made_links (lines_back n 0 starts xs ys)))
+  links_answer r h = h ∙ ap (λ (links : List MstEdge). sets (replicate most_links no_link) 0 links) (links_drawn n starts xs ys has es M E (take count found) e)

@@ -4,134 +4,106 @@
 
 ghost use Rattle.std.specs.Prelude.{◌≡◌, map, ◌<◌, ◌≤◌, length, take, replicate};
 ghost use Rattle.std.proofs.lemmas.List.Edits.{sets};
-ghost use Rattle.limits.specs.Limits.{most_lines, most_links};
+ghost use Rattle.limits.specs.Limits.{most_lines, most_links, most_points};
 ghost use Rattle.drawing_spec.specs.Drawing.{linking};
-ghost use Rattle.file_records.specs.Body.{edge_from};
+ghost use Rattle.file_records.specs.Body.{point_from, edge_from};
 ghost use Rattle.file_records.specs.Meaning.{settings_of};
 ghost use Rattle.file_drawing.specs.Back.{lines_back, drawing_from};
 ghost use Rattle.file_drawing.specs.Held.{no_link, drawing_held};
 ghost use Rattle.links_spec.specs.Made.{made_links, linked, to_plan};
-ghost use Rattle.links_tree.specs.Packed.{codes, AreCodes};
-ghost use Rattle.links_made.specs.Filled.{StartsIn, PlacesOn, mark_at, ends_at, Marked, Ended, segment_in, edge_in};
+ghost use Rattle.links_tree.specs.Packed.{EndsOn, codes, AreCodes, end_of};
+ghost use Rattle.links_made.specs.Filled.{StartsIn, PlacesOn, place_in, line_ends, mark_at, ends_at, Marked, Ended, segment_in, edge_in};
 ghost use Rattle.links_made.specs.Linkable.{Linkable};
 
 use file_drawing::{Drawing, arrays};
 use file_records::{MstEdge, Point, Settings};
-use limits::{MOST_LINES, MOST_LINKS, MOST_POINTS};
-use links_tree::{BETWEEN, ENDS, NUMBERS};
+use grid::Point as Place;
+use limits::{MOST_LINES, MOST_LINKS};
+use links_tree::{BETWEEN, Ends, Found, NUMBERS, Ranked};
 
-// Where each line starts among the points, and where the last one ends.
-const STARTS: usize = MOST_LINES + 1;
+// What stands where a line has no points.
+const NO_ENDS: Ends = Ends {
+    start: Place { x: 0, y: 0 },
+    end: Place { x: 0, y: 0 },
+};
 
-// Marks the line l where it has points.
-fn mark(starts: &[u16; STARTS], has: &mut [u8; MOST_LINES], l: usize)
-    requires { l < most_lines }
-    ensures { has.new ≡ mark_at starts.now has.old l }
+// The lines that have points are marked, and these have their ends.
+#[derive(Clone, Copy)]
+struct LineEnds {
+    has: [bool; MOST_LINES],
+    ends: [Ends; MOST_LINES],
+}
+
+// The place of the point i.
+fn place_at(drawing: &Drawing, i: usize) -> Place
+    requires { i < most_points }
+    ensures { result ≡ place_in drawing.now.xs drawing.now.ys i }
 {
-    let first = widen::wide(starts[l]);
-    let next = widen::wide(starts[l + 1]);
-    if first < next {
-        has[l] = 1;
+    Place {
+        x: drawing.xs[i],
+        y: drawing.ys[i],
     }
 }
 
-// Writes one coordinate of both ends of the line l, where it has points.
-fn put_ends(starts: &[u16; STARTS], vs: &[u32; MOST_POINTS], es: &mut [u32; ENDS], l: usize)
-    requires { (l < most_lines) × StartsIn starts.now }
-    ensures { es.new ≡ ends_at starts.now vs.now es.old l }
-{
-    let first = widen::wide(starts[l]);
-    let end = widen::wide(starts[l + 1]);
-    if first < end {
-        es[l * 2] = vs[first];
-        es[l * 2 + 1] = vs[end - 1];
-    }
-}
-
-// Marks every line that has points, and writes its ends.
-fn fill(
-    starts: &[u16; STARTS],
-    xs: &[u32; MOST_POINTS],
-    ys: &[u32; MOST_POINTS],
-    lines: usize,
-    has: &mut [u8; MOST_LINES],
-    exs: &mut [u32; ENDS],
-    eys: &mut [u32; ENDS],
-)
-    requires { (lines ≤ most_lines) × StartsIn starts.now × PlacesOn xs.now × PlacesOn ys.now × Marked starts.now has.old 0 × Ended starts.now xs.now exs.old 0 × Ended starts.now ys.now eys.old 0 }
-    ensures { Marked starts.now has.new lines × Ended starts.now xs.now exs.new lines × Ended starts.now ys.now eys.new lines }
-{
-    let mut l = 0;
-    while l < lines {
-        mark(starts, has, l);
-        put_ends(starts, xs, exs, l);
-        put_ends(starts, ys, eys, l);
-        l += 1;
+impl LineEnds {
+    // Marks the line l where it has points, and takes its ends.
+    fn mark(&mut self, drawing: &Drawing, l: usize)
+        requires { (l < most_lines) × StartsIn drawing.now.starts }
+        ensures { self.new ≡ line_ends (mark_at drawing.now.starts self.old.has l) (ends_at drawing.now.starts drawing.now.xs drawing.now.ys self.old.ends l) }
+    {
+        let first = usize::from(drawing.starts[l]);
+        let next = usize::from(drawing.starts[l + 1]);
+        if first < next {
+            self.has[l] = true;
+            self.ends[l] = Ends {
+                start: place_at(drawing, first),
+                end: place_at(drawing, next - 1),
+            };
+        }
     }
 }
 
 // The segment that a link names at an end of the line l.
-fn segment(starts: &[u16; STARTS], l: usize, end: usize) -> u16
-    requires { (l < most_lines) × (end < 2) × StartsIn starts.now }
-    ensures { result ≡ segment_in starts.now l end }
+fn segment(drawing: &Drawing, l: usize, end: usize) -> u16
+    requires { (l < most_lines) × (end < 2) × StartsIn drawing.now.starts }
+    ensures { result ≡ segment_in drawing.now.starts l end }
 {
     if end == 0 {
         return 0;
     }
-    let first = widen::wide(starts[l]);
-    let stop = widen::wide(starts[l + 1]);
-    if stop < first + 2 {
-        return 0;
+    let points = drawing.starts[l + 1].saturating_sub(drawing.starts[l]);
+    points.saturating_sub(2)
+}
+
+// The point at an end of a line.
+fn end_point(ends: Ends, end: usize) -> Point
+    ensures { result ≡ point_from (end_of ends end) }
+{
+    let place = if end == 0 { ends.start } else { ends.end };
+    Point {
+        x: grid::coordinate(place.x),
+        y: grid::coordinate(place.y),
     }
-    (stop - first - 2) as u16
 }
 
 // The candidate c as a link.
-fn edge_of(starts: &[u16; STARTS], exs: &[u32; ENDS], eys: &[u32; ENDS], c: u32) -> MstEdge
-    requires { (c < codes) × StartsIn starts.now }
-    ensures { result ≡ edge_in starts.now exs.now eys.now c }
+fn edge_of(drawing: &Drawing, ends: &[Ends; MOST_LINES], c: Ranked) -> MstEdge
+    requires { (c.code < codes) × StartsIn drawing.now.starts }
+    ensures { result ≡ edge_in drawing.now.starts ends.now c }
 {
-    let code = c as usize;
+    let code = c.code as usize;
     let low = code / NUMBERS;
     let high = code / BETWEEN % MOST_LINES;
     let low_end = code / 2 % 2;
     let high_end = code % 2;
-    let seg_a = segment(starts, low, low_end);
-    let seg_b = segment(starts, high, high_end);
-    let a = low * 2 + low_end;
-    let b = high * 2 + high_end;
-    let ax = grid::coordinate(exs[a]);
-    let ay = grid::coordinate(eys[a]);
-    let bx = grid::coordinate(exs[b]);
-    let by = grid::coordinate(eys[b]);
     MstEdge {
         poly_a: low as u16,
-        seg_a,
+        seg_a: segment(drawing, low, low_end),
         poly_b: high as u16,
-        seg_b,
-        point_a: Point { x: ax, y: ay },
-        point_b: Point { x: bx, y: by },
+        seg_b: segment(drawing, high, high_end),
+        point_a: end_point(ends[low], low_end),
+        point_b: end_point(ends[high], high_end),
     }
-}
-
-// The first `count` of the candidates found, as links, in their order.
-fn write_links(
-    starts: &[u16; STARTS],
-    exs: &[u32; ENDS],
-    eys: &[u32; ENDS],
-    found: &[u32; MOST_LINKS],
-    count: usize,
-) -> [MstEdge; MOST_LINKS]
-    requires { StartsIn starts.now × AreCodes count found.now }
-    ensures { result ≡ sets (replicate most_links no_link) 0 (map (edge_in starts.now exs.now eys.now) (take count found.now)) }
-{
-    let mut edges = [arrays::no_link(); MOST_LINKS];
-    let mut j = 0;
-    while j < count {
-        edges[j] = edge_of(starts, exs, eys, found[j]);
-        j += 1;
-    }
-    edges
 }
 
 // The links made, and how many they are.
@@ -141,26 +113,26 @@ pub struct Made {
     pub links: [MstEdge; MOST_LINKS],
 }
 
-// The links that are made for a drawing of `lines` lines.
-pub fn make_links(
-    starts: &[u16; STARTS],
-    xs: &[u32; MOST_POINTS],
-    ys: &[u32; MOST_POINTS],
-    lines: usize,
-) -> Made
-    requires { (lines ≤ most_lines) × StartsIn starts.now × PlacesOn xs.now × PlacesOn ys.now }
-    ensures { (result.count ≡ length (made_links (lines_back lines 0 starts.now xs.now ys.now))) × (result.links ≡ sets (replicate most_links no_link) 0 (map edge_from (made_links (lines_back lines 0 starts.now xs.now ys.now)))) }
+// The links that are made for a drawing.
+pub fn make_links(drawing: &Drawing) -> Made
+    requires { (drawing.now.lines ≤ most_lines) × StartsIn drawing.now.starts × PlacesOn drawing.now.xs × PlacesOn drawing.now.ys }
+    ensures { (result.count ≡ length (made_links (lines_back drawing.now.lines 0 drawing.now.starts drawing.now.xs drawing.now.ys))) × (result.links ≡ sets (replicate most_links no_link) 0 (map edge_from (made_links (lines_back drawing.now.lines 0 drawing.now.starts drawing.now.xs drawing.now.ys)))) }
 {
-    let mut has = [0u8; MOST_LINES];
-    let mut exs = [0u32; ENDS];
-    let mut eys = [0u32; ENDS];
-    fill(starts, xs, ys, lines, &mut has, &mut exs, &mut eys);
-    let mut found = [0u32; MOST_LINKS];
-    let count = links_tree::grow(&exs, &eys, &has, lines, &mut found);
-    let written = write_links(starts, &exs, &eys, &found, count);
+    let mut taken = LineEnds {
+        has: [false; MOST_LINES],
+        ends: [NO_ENDS; MOST_LINES],
+    };
+    for l in 0..drawing.lines {
+        taken.mark(drawing, l);
+    }
+    let found = links_tree::grow(&taken.ends, &taken.has, drawing.lines);
+    let mut links = [arrays::no_link(); MOST_LINKS];
+    for j in 0..found.count {
+        links[j] = edge_of(drawing, &taken.ends, found.candidates[j]);
+    }
     Made {
-        count,
-        links: written,
+        count: found.count,
+        links,
     }
 }
 
@@ -169,21 +141,11 @@ pub fn link_ends(drawing: Drawing) -> Drawing
     requires { Linkable drawing }
     ensures { result ≡ drawing_held (linked (drawing_from drawing)) }
 {
-    let starts = drawing.starts;
-    let xs = drawing.xs;
-    let ys = drawing.ys;
-    let made = make_links(&starts, &xs, &ys, drawing.lines);
-    let settings = drawing.settings;
-    let links = made.links;
+    let Made { count, links } = make_links(&drawing);
     Drawing {
-        settings,
-        lines: drawing.lines,
-        starts,
-        points: drawing.points,
-        xs,
-        ys,
-        link_count: made.count,
+        link_count: count,
         links,
+        ..drawing
     }
 }
 
@@ -199,9 +161,9 @@ pub fn to_plan(drawing: Drawing) -> Drawing
     requires { Linkable drawing }
     ensures { result ≡ drawing_held (to_plan (drawing_from drawing)) }
 {
-    let linking = asked(drawing.settings);
-    if linking {
-        return link_ends(drawing);
+    if asked(drawing.settings) {
+        link_ends(drawing)
+    } else {
+        drawing
     }
-    drawing
 }

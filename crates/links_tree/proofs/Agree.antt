@@ -23,7 +23,8 @@ use Rattle.links_spec.proofs.Grown.{first_of, nearest, nearest_of}
 use Rattle.links_spec.proofs.Rank.{less_front, less_now, less_later, rank_order}
 use Rattle.links_spec.proofs.Candidates.{there}
 use Rattle.links_tree.specs.declared.Ranked.{Ranked}
-use Rattle.links_tree.specs.Packed.{codes, candidate_of, code_of, point_in, ends_in, ranked, before, first_of as first_ranked, nearest_of as nearest_ranked, nearest_in, is_marked, end_lines, insert_in}
+use Rattle.links_tree.specs.declared.Ends.{Ends}
+use Rattle.links_tree.specs.Packed.{codes, candidate_of, candidate_in, code_of, end_in, ends_in, ranked, before, first_of as first_ranked, nearest_of as nearest_ranked, nearest_between, nearest_in, is_marked, end_lines, insert_in}
 use Rattle.links_tree.proofs.Cases.{less_or, not_true}
 use Rattle.links_tree.proofs.Marks.{marked_in}
 use Rattle.links_tree.proofs.Ranks.{before_key, key_before}
@@ -68,23 +69,20 @@ module _ (a b e f p q r s : ℕ) (lb : b < 256) (le : e < 2) (lf : f < 2) (lq : 
     ],
   )
 
-abbrev pub candidate_in : Ranked → Candidate
-candidate_in r = candidate_of r.code
-
-module _ (n : ℕ) (has xs ys : List ℕ) where
+module _ (n : ℕ) (has : List Bool) (es : List Ends) where
   abbrev pub lines : List (List Point)
-  lines = end_lines n has xs ys
+  lines = end_lines n has es
 
   pub lines_length : length lines ≡ n
   unfolding end_lines
-  lines_length = tabulate_length (λ (l : ℕ). elim (is_marked n has l) [ true ↦ point_in xs ys (l * 2) ∷ point_in xs ys (l * 2 + 1) ∷ [] | false ↦ [] ]) n 0
+  lines_length = tabulate_length (λ (l : ℕ). elim (is_marked n has l) [ true ↦ end_in es l 0 ∷ end_in es l 1 ∷ [] | false ↦ [] ]) n 0
 
-  line_is : (l : ℕ) → l < n → line_at lines l ≡ elim (is_marked n has l) [ true ↦ point_in xs ys (l * 2) ∷ point_in xs ys (l * 2 + 1) ∷ [] | false ↦ [] ]
+  line_is : (l : ℕ) → l < n → line_at lines l ≡ elim (is_marked n has l) [ true ↦ end_in es l 0 ∷ end_in es l 1 ∷ [] | false ↦ [] ]
   unfolding end_lines
-  line_is l h = tabulate_at (λ (l : ℕ). elim (is_marked n has l) [ true ↦ point_in xs ys (l * 2) ∷ point_in xs ys (l * 2 + 1) ∷ [] | false ↦ [] ]) n l [] h
+  line_is l h = tabulate_at (λ (l : ℕ). elim (is_marked n has l) [ true ↦ end_in es l 0 ∷ end_in es l 1 ∷ [] | false ↦ [] ]) n l [] h
 
-  pub line_two : (l : ℕ) → is_marked n has l ≡ true → line_at lines l ≡ point_in xs ys (l * 2) ∷ point_in xs ys (l * 2 + 1) ∷ []
-  line_two l o = line_is l (marked_in n has l o).0 ∙ ap (λ (t : Bool). elim t [ true ↦ point_in xs ys (l * 2) ∷ point_in xs ys (l * 2 + 1) ∷ [] | false ↦ [] ]) o
+  pub line_two : (l : ℕ) → is_marked n has l ≡ true → line_at lines l ≡ end_in es l 0 ∷ end_in es l 1 ∷ []
+  line_two l o = line_is l (marked_in n has l o).0 ∙ ap (λ (t : Bool). elim t [ true ↦ end_in es l 0 ∷ end_in es l 1 ∷ [] | false ↦ [] ]) o
 
   pub has_points_lem : (l : ℕ) → has_points lines l ≡ is_marked n has l
   unfolding has_points
@@ -93,14 +91,14 @@ module _ (n : ℕ) (has xs ys : List ℕ) where
       go : (t : Bool) → is_marked n has l ≡ t → ltb 0 (length (line_at lines l)) ≡ t
       go true o = rw (line_two l o)
       go false o = elim (less_or l n) [
-        | inl h ↦ ap (λ (ps : List Point). ltb 0 (length ps)) (line_is l h ∙ ap (λ (t : Bool). elim t [ true ↦ point_in xs ys (l * 2) ∷ point_in xs ys (l * 2 + 1) ∷ [] | false ↦ [] ]) o)
+        | inl h ↦ ap (λ (ps : List Point). ltb 0 (length ps)) (line_is l h ∙ ap (λ (t : Bool). elim t [ true ↦ end_in es l 0 ∷ end_in es l 1 ∷ [] | false ↦ [] ]) o)
         | inr h ↦ not_true (ltb 0 (length (line_at lines l))) (λ e. omega (arith, h, lines_length, there lines l e))
       ]
 
-  end_is : (l e : ℕ) → has_points lines l ≡ true → e < 2 → end_point (line_at lines l) e ≡ point_in xs ys (l * 2 + e)
+  end_is : (l e : ℕ) → has_points lines l ≡ true → e < 2 → end_point (line_at lines l) e ≡ end_in es l e
   unfolding end_point
-  end_is l zero h b = let o = sym (has_points_lem l) ∙ h in let q : l * 2 ≡ l * 2 + 0 = omega arith in rw (line_two l o) (ap (point_in xs ys) q)
-  end_is l (suc zero) h b = let o = sym (has_points_lem l) ∙ h in rw (line_two l o)
+  end_is l zero h b = rw (line_two l (sym (has_points_lem l) ∙ h))
+  end_is l (suc zero) h b = rw (line_two l (sym (has_points_lem l) ∙ h))
   end_is l (suc (suc e)) h b = absurd (omega arith)
 
   -- a candidate of these lines, with its length
@@ -173,7 +171,7 @@ module _ (n : ℕ) (has xs ys : List ℕ) where
       abbrev Stands : Ranked → Candidate → Type 0
       Stands r k = Valid r × (candidate_in r ≡ k)
 
-      code_stands : (a b e d : ℕ) → a < 2 → b < 2 → e ≡ a * 2 + b → d ≡ squared (point_in xs ys (l * 2 + a)) (point_in xs ys (h * 2 + b)) → Stands (ranked d (code_of l h + e)) (candidate l h a b)
+      code_stands : (a b e d : ℕ) → a < 2 → b < 2 → e ≡ a * 2 + b → d ≡ squared (end_in es l a) (end_in es h b) → Stands (ranked d (code_of l h + e)) (candidate l h a b)
       code_stands a b e d p q r z =
           let k = code_is a b e p q r in (
             record {
@@ -186,35 +184,33 @@ module _ (n : ℕ) (has xs ys : List ℕ) where
       first_stands : (x y : Ranked) (j k : Candidate) → Stands x j → Stands y k → Stands (first_ranked x y) (first_of lines j k)
       first_stands x y j k J K = let f = first_valid x y J.0 K.0 in (f.0, f.1 ∙ ap (λ (z : Candidate). first_of lines z (candidate_in y)) J.1 ∙ ap (first_of lines j) K.1)
 
-      nearest_stands : Stands (nearest_ranked (ends_in xs ys l) (ends_in xs ys h) (code_of l h)) (nearest lines l h)
+      nearest_stands : Stands (nearest_ranked (ends_in es l) (ends_in es h) (code_of l h)) (nearest lines l h)
       unfolding nearest_ranked nearest
       nearest_stands =
           let none_more : code_of l h + 0 ≡ code_of l h = omega arith in
-          let la : l * 2 ≡ l * 2 + 0 = omega arith in
-          let ha : h * 2 ≡ h * 2 + 0 = omega arith in
-          let d0 = squared (point_in xs ys (l * 2)) (point_in xs ys (h * 2)) in
-          let d1 = squared (point_in xs ys (l * 2)) (point_in xs ys (h * 2 + 1)) in
-          let d2 = squared (point_in xs ys (l * 2 + 1)) (point_in xs ys (h * 2)) in
-          let d3 = squared (point_in xs ys (l * 2 + 1)) (point_in xs ys (h * 2 + 1)) in
+          let d0 = squared (end_in es l 0) (end_in es h 0) in
+          let d1 = squared (end_in es l 0) (end_in es h 1) in
+          let d2 = squared (end_in es l 1) (end_in es h 0) in
+          let d3 = squared (end_in es l 1) (end_in es h 1) in
           let c0 : Stands (ranked d0 (code_of l h)) (candidate l h 0 0) =
-          subst (λ (c : ℕ). Stands (ranked d0 c) (candidate l h 0 0)) none_more (code_stands 0 0 0 d0 (omega arith) (omega arith) refl (λ i. squared (point_in xs ys (la i)) (point_in xs ys (ha i)))) in
-          let c1 = code_stands 0 1 1 d1 (omega arith) (omega arith) refl (λ i. squared (point_in xs ys (la i)) (point_in xs ys (h * 2 + 1))) in
-          let c2 = code_stands 1 0 2 d2 (omega arith) (omega arith) refl (λ i. squared (point_in xs ys (l * 2 + 1)) (point_in xs ys (ha i))) in
+          subst (λ (c : ℕ). Stands (ranked d0 c) (candidate l h 0 0)) none_more (code_stands 0 0 0 d0 (omega arith) (omega arith) refl refl) in
+          let c1 = code_stands 0 1 1 d1 (omega arith) (omega arith) refl refl in
+          let c2 = code_stands 1 0 2 d2 (omega arith) (omega arith) refl refl in
           let c3 = code_stands 1 1 3 d3 (omega arith) (omega arith) refl refl in
           let two = first_stands (ranked d0 (code_of l h)) (ranked d1 (code_of l h + 1)) (candidate l h 0 0) (candidate l h 0 1) c0 c1 in
           let three = first_stands (first_ranked (ranked d0 (code_of l h)) (ranked d1 (code_of l h + 1))) (ranked d2 (code_of l h + 2)) (first_of lines (candidate l h 0 0) (candidate l h 0 1)) (candidate l h 1 0) two c2 in
           first_stands (first_ranked (first_ranked (ranked d0 (code_of l h)) (ranked d1 (code_of l h + 1))) (ranked d2 (code_of l h + 2))) (ranked d3 (code_of l h + 3))
           (first_of lines (first_of lines (candidate l h 0 0) (candidate l h 0 1)) (candidate l h 1 0)) (candidate l h 1 1) three c3
 
-    pub nearest_valid : (u w : ℕ) → has_points lines u ≡ true → has_points lines w ≡ true → (u ≡ w → ⊥) → Valid (nearest_in xs ys u w) × (candidate_in (nearest_in xs ys u w) ≡ nearest_of lines u w)
-    unfolding nearest_in nearest_of
+    pub nearest_valid : (u w : ℕ) → has_points lines u ≡ true → has_points lines w ≡ true → (u ≡ w → ⊥) → Valid (nearest_in es u w) × (candidate_in (nearest_in es u w) ≡ nearest_of lines u w)
+    unfolding nearest_between nearest_of
     nearest_valid u w hu hw d = go (ltb u w) refl
       where
         up : Ranked
-        up = nearest_ranked (ends_in xs ys u) (ends_in xs ys w) (code_of u w)
+        up = nearest_ranked (ends_in es u) (ends_in es w) (code_of u w)
 
         down : Ranked
-        down = nearest_ranked (ends_in xs ys w) (ends_in xs ys u) (code_of w u)
+        down = nearest_ranked (ends_in es w) (ends_in es u) (code_of w u)
 
         strict : (u w : ℕ) → (u ≡ w → ⊥) → w ≤ u → w < u
         strict u w d l = omega arith

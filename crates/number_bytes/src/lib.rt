@@ -11,13 +11,9 @@ pub fn write_number(output: &mut [u8], at: usize, size: usize, n: u64)
     requires { at + size ≤ length output.old }
     ensures { output.new ≡ sets output.old at (bytes size n) }
 {
-    let mut place = at;
-    let mut left = size;
     let mut rest = n;
-    while left > 0 {
+    for place in at..at + size {
         output[place] = (rest % 256) as u8;
-        place += 1;
-        left -= 1;
         rest /= 256;
     }
 }

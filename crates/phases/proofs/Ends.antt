@@ -21,14 +21,12 @@ use Rattle.lists.proofs.Tabulate.{tabulate_length}
 use Rattle.graph_arrays.proofs.Arrays.{front_at}
 use Rattle.graph_arrays.proofs.NodeList.{point_at_lem}
 use Rattle.repair_spec.specs.Distance.{zero_length, distance_at, distances}
-use Rattle.repair_spec.specs.PairsIn.{pairs_in}
+use Rattle.repair_spec.specs.PairsIn.{PairList, pairs_in, listed}
 use Rattle.repair_spec.proofs.PairsIn.{pairs_count}
 use Rattle.repair_pairs.specs.Pairs.{pairs_for}
-use Rattle.repair_pairs.specs.Meaning.{found_in}
-use Rattle.repair_pairs.specs.declared.Pairs.{Pairs}
-use Rattle.repair_pairs.specs.declared.Pairs.TheVariants as pairing
+use Rattle.repair_pairs.specs.Pairs as found
 use Rattle.repair_pairs.proofs.Usable.{Usable}
-use Rattle.repair.proofs.ParityLaws.{found_some, found_usable}
+use Rattle.repair.proofs.ParityLaws.{found_usable}
 use Rattle.repair.specs.Parity.{parity_for}
 use Rattle.repair.specs.Meaning.{case_in, case_held, parity_in, HeldWith}
 use Rattle.repair.specs.declared.Parity.{Parity}
@@ -62,42 +60,43 @@ module _ (n : ℕ) (es : List Edge) (listed : List ℕ) (count : ℕ) (F : Front
       e ∙ front_at (odd_nodes n es) listed count F (count - 1) (omega (arith, h)) ∙ ap (λ (k : ℕ). get_or (odd_nodes n es) (k - 1) 0) F.counts in
       λ i. made (F.counts i) (at i) zero_length
 
-module _ (n m : ℕ) (xs ys : List ℕ) (a : Adjacency) (s : drawn.Settings) (floats bytes last : ℕ) (r : Pairs) (fs ss : List ℕ) (is : found_in r fs ss ≡ pairs_for (graph_in n m xs ys a) s floats bytes) where
+module _ (n m : ℕ) (xs ys : List ℕ) (a : Adjacency) (s : drawn.Settings) (floats bytes last : ℕ) where
   abbrev g : Graph
   g = graph_in n m xs ys a
 
-  found_by : (b : Bool) → eqb last 3 ≡ b → found_end g b (found_in r fs ss) ≡ pairs_end g s floats bytes last
+  found_by : (f : found.Found) → f ≡ pairs_for g s floats bytes → (b : Bool) → eqb last 3 ≡ b → found_end g b f ≡ pairs_end g s floats bytes last
   unfolding pairs_end
-  found_by b e = ap (λ (t : Bool). found_end g t (found_in r fs ss)) (sym e) ∙ ap (found_end g (eqb last 3)) is
+  found_by f is b e = ap (λ (t : Bool). found_end g t f) (sym e) ∙ ap (found_end g (eqb last 3)) is
 
-  pub pairs_refused : (k : ℕ) → r ≡ pairing.Refused k → refused_with k ≡ pairs_end g s floats bytes last
-  pairs_refused k e = ap (λ (q : Pairs). found_end g (eqb last 3) (found_in q fs ss)) (sym e) ∙ found_by (eqb last 3) refl
+  pub pairs_refused : (k : ℕ) → found.refusal k ≡ pairs_for g s floats bytes → refused_with k ≡ pairs_end g s floats bytes last
+  pairs_refused k is = found_by (found.refusal k) is (eqb last 3) refl
 
-  module _ (odd count : ℕ) (e : r ≡ pairing.Found odd count) where
-    pub pairs_found : last ≡ 3 → made odd count zero_length ≡ pairs_end g s floats bytes last
-    pairs_found h =
-        ap (λ (k : ℕ). made odd k zero_length) (sym (pairs_count fs ss 0 count)) ∙ ap (λ (q : Pairs). found_end g true (found_in q fs ss)) (sym e) ∙ found_by true (eq-eqb last 3 h)
+  module _ (odd : ℕ) (p : PairList) (is : found.pairs odd (listed p) ≡ pairs_for g s floats bytes) where
+    counted : length (listed p) ≡ p.count
+    counted = pairs_count p.firsts p.seconds 0 p.count
 
-    pub pairs_searched : (last ≡ 3 → ⊥) → (x : Float) → x ≡ searched n (edges_in m a) (pairs_in fs ss 0 count) zero_length → made odd count x ≡ pairs_end g s floats bytes last
+    pub pairs_found : last ≡ 3 → made odd p.count zero_length ≡ pairs_end g s floats bytes last
+    pairs_found h = ap (λ (k : ℕ). made odd k zero_length) (sym counted) ∙ found_by (found.pairs odd (listed p)) is true (eq-eqb last 3 h)
+
+    pub pairs_searched : (last ≡ 3 → ⊥) → (x : Float) → x ≡ searched n (edges_in m a) (listed p) zero_length → made odd p.count x ≡ pairs_end g s floats bytes last
     pairs_searched z x sum =
-        let same : x ≡ searched (length (nodes_in n xs ys)) (edges_in m a) (pairs_in fs ss 0 count) zero_length =
-        sum ∙ ap (λ (k : ℕ). searched k (edges_in m a) (pairs_in fs ss 0 count) zero_length) (sym (tabulate_length (point_in xs ys) n 0)) in
-        (λ i. made odd (sym (pairs_count fs ss 0 count) i) (same i)) ∙ ap (λ (q : Pairs). found_end g false (found_in q fs ss)) (sym e) ∙ found_by false (ne_eqb last 3 z)
+        let same : x ≡ searched (length (nodes_in n xs ys)) (edges_in m a) (listed p) zero_length =
+        sum ∙ ap (λ (k : ℕ). searched k (edges_in m a) (listed p) zero_length) (sym (tabulate_length (point_in xs ys) n 0)) in
+        (λ i. made odd (sym counted i) (same i)) ∙ found_by (found.pairs odd (listed p)) is false (ne_eqb last 3 z)
 
-    pub usable : EdgesHeld n m a → Usable n count fs ss
-    usable E = found_usable 0 0 n m xs ys a E s floats bytes odd count fs ss (found_some r fs ss (pairs_for g s floats bytes) is odd count e)
+    pub usable : EdgesHeld n m a → Usable n p.count p.firsts p.seconds
+    usable E = found_usable 0 0 n m xs ys a E s floats bytes odd p is
 
 -- ---- one search after the other
 
 -- what is left, from the pair i on, gives the whole sum
 pub record Searching (n : ℕ) (es : List Edge) (fs ss : List ℕ) (pairs : ℕ) (whole : Float) (i : ℕ) (sum : Float) : Type 0 where
-  pub up_to : i ≤ pairs
   pub same : searched n es (pairs_in fs ss i (pairs - i)) sum ≡ whole
 
 pub searching_begin : (n : ℕ) (es : List Edge) (fs ss : List ℕ) (pairs : ℕ) → Searching n es fs ss pairs (searched n es (pairs_in fs ss 0 pairs) zero_length) 0 zero_length
 searching_begin n es fs ss pairs =
     let all : pairs - 0 ≡ pairs = omega arith in
-    record { up_to = omega arith; same = ap (λ (k : ℕ). searched n es (pairs_in fs ss 0 k) zero_length) all }
+    record { same = ap (λ (k : ℕ). searched n es (pairs_in fs ss 0 k) zero_length) all }
 
 module _ (n : ℕ) (es : List Edge) (fs ss : List ℕ) (pairs : ℕ) (whole : Float) (i : ℕ) (sum : Float) (S : Searching n es fs ss pairs whole i sum) where
   pub searching_step : i < pairs → (u v : ℕ) → u ≡ get_or fs i 0 → v ≡ get_or ss i 0 → (x : Float) → x ≡ add binary64 sum (distance_at (distances n es u) v) → Searching n es fs ss pairs whole (i + 1) x
@@ -108,7 +107,6 @@ module _ (n : ℕ) (es : List Edge) (fs ss : List ℕ) (pairs : ℕ) (whole : Fl
       let nodes : distance_at (distances n es u) v ≡ distance_at (distances n es (get_or fs i 0)) (get_or ss i 0) =
       ap (λ (w : ℕ). distance_at (distances n es w) v) eu ∙ ap (λ (w : ℕ). distance_at (distances n es (get_or fs i 0)) w) ev in
       record {
-        up_to = omega (arith, h);
         same =
             ap (λ (k : ℕ). searched n es (pairs_in fs ss k (pairs - (i + 1))) x) one
             ∙ ap (λ (y : Float). searched n es (pairs_in fs ss (suc i) (pairs - (i + 1))) y) (ex ∙ ap (add binary64 sum) nodes)

@@ -7,21 +7,23 @@ ghost use Rattle.std.specs.Float.{binary64};
 ghost use Rattle.std.specs.Float.Ieee.{add};
 ghost use Rattle.limits.specs.Limits.{most_side, most_pairs};
 ghost use Rattle.file_records.specs.Meaning.{settings_of};
-ghost use Rattle.graph_adjacency.specs.Lists.{adjacency};
 ghost use Rattle.graph_arrays.specs.Arrays.{nodes_in, edges_in, graph_in, NodesHeld, EdgesHeld, EdgesLinked};
 ghost use Rattle.repair_spec.specs.Distance.{zero_length, distance_at, distances};
-ghost use Rattle.repair_spec.specs.PairsIn.{pairs_in, PairsAmong};
+ghost use Rattle.repair_spec.specs.PairsIn.{listed, PairsAmong};
 ghost use Rattle.repair_search.specs.Touched.{Unreached};
 ghost use Rattle.walk_spec.specs.Line.{line_of};
 ghost use Rattle.planner_graph.specs.Answer.{Plannable};
 ghost use Rattle.phases.specs.Ends.{refused_with, made, odd_end, searched, pairs_end, line_made, repair_end};
 
 use file_records::Settings;
-use limits::{ARC_ROOM, EDGE_ROOM, LINE_ROOM, MOST_EDGES, MOST_NODES, MOST_PAIRS, REFUSED_EDGES};
+use graph_adjacency::Adjacency;
+use graph_nodes::Table;
+use limits::{LINE_ROOM, MOST_EDGES, MOST_NODES, REFUSED_EDGES};
 use repair::Parity;
-use repair_pairs::Pairs;
+use repair_search::Search;
+use repair_spec::PairList;
 
-// The phases that a call may stop after; any other number is the last phase, the line.
+// The phases that a call may stop after; any other number is the last phase, the line. Numbers and no enum, since C calls by them.
 pub const READ: u32 = 0;
 
 pub const GRAPH: u32 = 1;
@@ -48,7 +50,7 @@ pub fn refused(number: u8) -> Phase
     ensures { result ≡ refused_with number }
 {
     Phase {
-        refusal: number as u32,
+        refusal: u32::from(number),
         first: 0,
         second: 0,
         total: 0.0,
@@ -67,108 +69,60 @@ pub fn made(first: usize, second: usize) -> Phase
 }
 
 // The number of odd nodes, and the last of them.
-pub fn end_of_odd(
-    ends: &[u16; ARC_ROOM],
-    weights: &[f64; EDGE_ROOM],
-    next: &[u16; ARC_ROOM],
-    heads: &[u16; 2 * MOST_NODES],
-    n: usize,
-    m: usize,
-) -> Phase
-    requires { EdgesLinked n m (adjacency ends.now weights.now next.now heads.now) }
-    ensures { result ≡ odd_end n (edges_in m (adjacency ends.now weights.now next.now heads.now)) }
+pub fn end_of_odd(edges: &Adjacency, n: usize, m: usize) -> Phase
+    requires { EdgesLinked n m edges.now }
+    ensures { result ≡ odd_end n (edges_in m edges.now) }
 {
-    let mut listed = [0u16; MOST_NODES];
-    let odd = graph_odd::odd_nodes(ends, weights, next, heads, n, m, &mut listed);
+    let mut listed = [0; MOST_NODES];
+    let odd = graph_odd::odd_nodes(edges, n, m, &mut listed);
     if odd == 0 {
         return made(0, 0);
     }
-    let last = widen::wide(listed[odd - 1]);
-    made(odd, last)
+    made(odd, usize::from(listed[odd - 1]))
 }
 
-// The least distance from one node to another, added to `sum`. The search is made in lent arrays, in which afterwards no
-// node is reached, as before; what `touched` holds is left open.
+// The least distance from one node to another, added to `sum`. The search is lent, and afterwards has reached no node, as before.
 fn add_distance(
-    ends: &[u16; ARC_ROOM],
-    weights: &[f64; EDGE_ROOM],
-    next: &[u16; ARC_ROOM],
-    heads: &[u16; 2 * MOST_NODES],
+    search: &mut Search,
+    edges: &Adjacency,
     n: usize,
     m: usize,
-    dist: &mut [f64; MOST_NODES],
-    tree: &mut [f64; 2 * MOST_NODES],
-    touched: &mut [u16; MOST_NODES],
     from: usize,
     to: usize,
     sum: f64,
 ) -> f64
-    requires from_lt_n { (from < n) × (to < n) × Unreached n dist.old tree.old touched.old }
-    requires edges_held { EdgesHeld n m (adjacency ends.now weights.now next.now heads.now) }
-    ensures added { result ≡ add binary64 sum (distance_at (distances n (edges_in m (adjacency ends.now weights.now next.now heads.now)) from) to) }
-    ensures kept { Unreached n dist.new tree.new touched.new }
+    requires from_lt_n { (from < n) × (to < n) × Unreached n search.old }
+    requires edges_held { EdgesHeld n m edges.now }
+    ensures added { result ≡ add binary64 sum (distance_at (distances n (edges_in m edges.now) from) to) }
+    ensures kept { Unreached n search.new }
 {
-    let count = repair_search::search_from(
-        ends, weights, next, heads, n, m, dist, tree, touched, from, to,
-    );
-    let found = dist[to];
-    repair_search::clear(dist, tree, touched, n, count);
+    let count = search.search_from(edges, n, m, from, to);
+    let found = search.dist[to];
+    search.clear(n, count);
     sum + found
 }
 
 // The least distances between the nodes of each pair, added up in order.
-fn search_pairs(
-    ends: &[u16; ARC_ROOM],
-    weights: &[f64; EDGE_ROOM],
-    next: &[u16; ARC_ROOM],
-    heads: &[u16; 2 * MOST_NODES],
-    n: usize,
-    m: usize,
-    firsts: &[u16; MOST_PAIRS],
-    seconds: &[u16; MOST_PAIRS],
-    pairs: usize,
-) -> f64
-    requires pairs_le_most_pairs { (pairs ≤ most_pairs) × PairsAmong n firsts.now seconds.now pairs }
-    requires edges_held { EdgesHeld n m (adjacency ends.now weights.now next.now heads.now) }
-    ensures { result ≡ searched n (edges_in m (adjacency ends.now weights.now next.now heads.now)) (pairs_in firsts.now seconds.now 0 pairs) zero_length }
+fn search_pairs(edges: &Adjacency, n: usize, m: usize, pairs: &PairList) -> f64
+    requires pairs_le_most_pairs { (pairs.now.count ≤ most_pairs) × PairsAmong n pairs.now.firsts pairs.now.seconds pairs.now.count }
+    requires edges_held { EdgesHeld n m edges.now }
+    ensures { result ≡ searched n (edges_in m edges.now) (listed pairs.now) zero_length }
 {
-    let infinity = repair_tournament::infinity();
-    let mut dist = [infinity; MOST_NODES];
-    let mut tree = [infinity; 2 * MOST_NODES];
-    let mut touched = [0; MOST_NODES];
+    let mut search = Search::new();
     let mut sum = 0.0;
-    let mut i: usize = 0;
-    while i < pairs {
-        let from = widen::wide(firsts[i]);
-        let to = widen::wide(seconds[i]);
-        sum = add_distance(
-            ends,
-            weights,
-            next,
-            heads,
-            n,
-            m,
-            &mut dist,
-            &mut tree,
-            &mut touched,
-            from,
-            to,
-            sum,
-        );
-        i += 1;
+    for i in 0..pairs.count {
+        let from = usize::from(pairs.firsts[i]);
+        let to = usize::from(pairs.seconds[i]);
+        sum = add_distance(&mut search, edges, n, m, from, to, sum);
     }
     sum
 }
 
-// The number of odd nodes and of pairs; or, past the pairs, the sum of their least distances too. What the arrays and the
-// tables hold afterwards is left open, here and below.
+// The number of odd nodes and of pairs; or, past the pairs, the sum of their least distances too. What the edges and the tables
+// are afterwards is left open, here and below.
 pub fn end_of_pairs(
-    xs: &[u32; MOST_NODES],
-    ys: &[u32; MOST_NODES],
-    ends: &[u16; ARC_ROOM],
-    weights: &[f64; EDGE_ROOM],
-    next: &[u16; ARC_ROOM],
-    heads: &[u16; 2 * MOST_NODES],
+    nodes: &Table,
+    edges: &Adjacency,
     n: usize,
     m: usize,
     settings: Settings,
@@ -176,72 +130,44 @@ pub fn end_of_pairs(
     bytes: &mut [u8],
     last: u32,
 ) -> Phase
-    requires nodes { NodesHeld n xs.now ys.now }
-    requires edges { EdgesHeld n m (adjacency ends.now weights.now next.now heads.now) }
-    ensures { result ≡ pairs_end (graph_in n m xs.now ys.now (adjacency ends.now weights.now next.now heads.now)) (settings_of settings) (length floats.old) (length bytes.old) last }
+    requires nodes { NodesHeld n nodes.now.xs nodes.now.ys }
+    requires edges { EdgesHeld n m edges.now }
+    ensures { result ≡ pairs_end (graph_in n m nodes.now.xs nodes.now.ys edges.now) (settings_of settings) (length floats.old) (length bytes.old) last }
 {
-    let mut firsts = [0u16; MOST_PAIRS];
-    let mut seconds = [0u16; MOST_PAIRS];
-    let pairs = repair_pairs::find_pairs(
-        xs,
-        ys,
-        ends,
-        weights,
-        next,
-        heads,
-        n,
-        m,
-        settings,
-        floats,
-        bytes,
-        &mut firsts,
-        &mut seconds,
-    );
-    match pairs {
-        Pairs::Refused(number) => refused(number),
-        Pairs::Found(odd, count) => {
+    let mut pairs = PairList::new();
+    match repair_pairs::find_pairs(nodes, edges, n, m, settings, floats, bytes, &mut pairs) {
+        Err(refusal) => refused(refusal.number()),
+        Ok(odd) => {
             if last == PAIRS {
-                return made(odd, count);
+                return made(odd, pairs.count);
             }
-            let total = search_pairs(ends, weights, next, heads, n, m, &firsts, &seconds, count);
+            let total = search_pairs(edges, n, m, &pairs);
             Phase {
                 refusal: 0,
                 first: odd,
-                second: count,
+                second: pairs.count,
                 total,
             }
         }
     }
 }
 
-fn wide(x: u32) -> usize
-    ensures { result ≡ x }
-{
-    x as usize
-}
-
 // The line through the repaired graph: the number of its points, and in which column the last of them lies.
 fn end_of_line(
-    xs: &[u32; MOST_NODES],
-    ys: &[u32; MOST_NODES],
-    ends: &mut [u16; ARC_ROOM],
-    weights: &mut [f64; EDGE_ROOM],
-    next: &mut [u16; ARC_ROOM],
-    heads: &mut [u16; 2 * MOST_NODES],
+    nodes: &Table,
+    edges: &mut Adjacency,
     n: usize,
     m: usize,
     settings: Settings,
     retrace: f64,
 ) -> Phase
     requires sides { (settings.width ≤ most_side) × (settings.height ≤ most_side) }
-    requires nodes { NodesHeld n xs.now ys.now }
-    requires edges { EdgesHeld n m (adjacency ends.old weights.old next.old heads.old) }
-    ensures { result ≡ line_made (line_of (settings_of settings) (nodes_in n xs.now ys.now) (edges_in m (adjacency ends.old weights.old next.old heads.old))) retrace }
+    requires nodes { NodesHeld n nodes.now.xs nodes.now.ys }
+    requires edges { EdgesHeld n m edges.old }
+    ensures { result ≡ line_made (line_of (settings_of settings) (nodes_in n nodes.now.xs nodes.now.ys) (edges_in m edges.old)) retrace }
 {
-    let mut line = [0u16; LINE_ROOM];
-    let count = walk::line_of(
-        xs, ys, ends, weights, next, heads, n, m, settings, &mut line,
-    );
+    let mut line = [0; LINE_ROOM];
+    let count = walk::line_of(nodes, edges, n, m, settings, &mut line);
     if count == 0 {
         return Phase {
             refusal: 0,
@@ -250,24 +176,19 @@ fn end_of_line(
             total: retrace,
         };
     }
-    let v = widen::wide(line[count - 1]);
-    let x = wide(xs[v]);
+    let v = usize::from(line[count - 1]);
     Phase {
         refusal: 0,
         first: count,
-        second: x,
+        second: nodes.xs[v] as usize,
         total: retrace,
     }
 }
 
 // The number of nodes left odd, that of edges with the copies, and the length of the retraces; or, past repair, the line.
 pub fn end_of_repair(
-    xs: &[u32; MOST_NODES],
-    ys: &[u32; MOST_NODES],
-    ends: &mut [u16; ARC_ROOM],
-    weights: &mut [f64; EDGE_ROOM],
-    next: &mut [u16; ARC_ROOM],
-    heads: &mut [u16; 2 * MOST_NODES],
+    nodes: &Table,
+    edges: &mut Adjacency,
     n: usize,
     m: usize,
     settings: Settings,
@@ -275,16 +196,12 @@ pub fn end_of_repair(
     bytes: &mut [u8],
     last: u32,
 ) -> Phase
-    requires { Plannable settings n m xs.now ys.now (adjacency ends.old weights.old next.old heads.old) }
-    ensures { result ≡ repair_end (graph_in n m xs.now ys.now (adjacency ends.old weights.old next.old heads.old)) (settings_of settings) (length floats.old) (length bytes.old) last }
+    requires { Plannable settings n m nodes.now.xs nodes.now.ys edges.old }
+    ensures { result ≡ repair_end (graph_in n m nodes.now.xs nodes.now.ys edges.old) (settings_of settings) (length floats.old) (length bytes.old) last }
 {
     let repair = repair::fix_parity(
-        xs,
-        ys,
-        ends,
-        weights,
-        next,
-        heads,
+        nodes,
+        edges,
         n,
         m,
         settings,
@@ -293,8 +210,7 @@ pub fn end_of_repair(
         MOST_EDGES,
         REFUSED_EDGES,
     );
-    let parity = repair.parity;
-    match parity {
+    match repair.parity {
         Parity::Refused(number) => refused(number),
         Parity::Repaired(retrace, _, after) => {
             if last == REPAIR {
@@ -305,18 +221,7 @@ pub fn end_of_repair(
                     total: retrace,
                 };
             }
-            end_of_line(
-                xs,
-                ys,
-                ends,
-                weights,
-                next,
-                heads,
-                n,
-                repair.edges,
-                settings,
-                retrace,
-            )
+            end_of_line(nodes, edges, n, repair.edges, settings, retrace)
         }
     }
 }

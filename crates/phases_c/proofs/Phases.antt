@@ -23,9 +23,9 @@ use Rattle.file_drawing.specs.declared.Drawing.{Drawing}
 use Rattle.file_drawing.specs.Back.{lines_back, links_back, drawing_from}
 use Rattle.file_drawing.specs.Held.{drawing_held}
 use Rattle.links_spec.specs.Made.{to_plan}
-use Rattle.file.specs.declared.Reading.{Reading}
-use Rattle.file.specs.declared.Verdict.TheVariants.{Accepted, Refused}
-use Rattle.file.specs.Reading.{verdict_from, reading_of}
+use Rattle.file.specs.Reading.{Accepted, Refused}
+use Rattle.limits.specs.declared.Refusal.{Refusal}
+use Rattle.limits.specs.Refused.{number_of}
 use Rattle.repair_spec.specs.Distance.{zero_length}
 use Rattle.planner_spec.specs.Plan.{drawing_in}
 use Rattle.planner.proofs.Drawn.{planned_in}
@@ -123,32 +123,17 @@ module _ (d : Drawing) (floats bytes last : ℕ) where
 
 -- ---- of a file
 
-module _ (file : List ℕ) (floats bytes last : ℕ) (r : Reading) (is : r ≡ reading_of file) where
+module _ (file : List ℕ) (floats bytes last : ℕ) where
   abbrev file_by : refusal.Verdict → Phase
   file_by v = elim v as (λ t. Phase) [ refusal.refused k ↦ refused_with k | refusal.accepted ↦ drawing_phase (drawing_in file) floats bytes last ]
 
-  file_by_lem : file_by (refusal.verdict (read_conditions file)) ≡ phase_of file floats bytes last
+  by_verdict : (v : refusal.Verdict) → refusal.verdict (read_conditions file) ≡ v → file_by v ≡ phase_of file floats bytes last
   unfolding phase_of
-  file_by_lem = refl
+  by_verdict v e = ap file_by (sym e)
 
-  read_verdict : verdict_from (refusal.verdict (read_conditions file)) ≡ r.verdict
-  unfolding reading_of
-  read_verdict = ap (λ (x : Reading). x.verdict) (sym is)
+  pub refused_stops : (r : Refusal) → Refused file r → refused_with (number_of r) ≡ phase_of file floats bytes last
+  refused_stops r e = by_verdict (refusal.refused (number_of r)) e
 
-  pub refused_stops : (k : ℕ) → r.verdict ≡ Refused k → refused_with k ≡ phase_of file floats bytes last
-  refused_stops k h = go (refusal.verdict (read_conditions file)) (read_verdict ∙ h) ∙ file_by_lem
-    where
-      go : (v : refusal.Verdict) → verdict_from v ≡ Refused k → refused_with k ≡ file_by v
-      go (refusal.refused n) e = let same : k ≡ n = cc in ap refused_with same
-      go refusal.accepted e = absurd (let z : ◌≡◌ {A = ℕ} 0 1 = cc in omega arith)
-
-  module _ (h : r.verdict ≡ Accepted) where
-    pub drawing_follows : (d : Drawing) → d ≡ drawing_held (to_plan (drawing_from r.drawing)) → (p : Phase) → p ≡ drawing_phase (drawing_from d) floats bytes last → p ≡ phase_of file floats bytes last
-    drawing_follows d planned p e =
-        e ∙ ap (λ (x : drawn.Drawing). drawing_phase x floats bytes last) (planned_in file r is h d planned)
-        ∙ go (refusal.verdict (read_conditions file)) (read_verdict ∙ h)
-        ∙ file_by_lem
-      where
-        go : (v : refusal.Verdict) → verdict_from v ≡ Accepted → drawing_phase (drawing_in file) floats bytes last ≡ file_by v
-        go (refusal.refused n) e = absurd (let z : ◌≡◌ {A = ℕ} 0 1 = cc in omega arith)
-        go refusal.accepted e = refl
+  pub drawing_follows : (r : Drawing) → Accepted file r → (d : Drawing) → d ≡ drawing_held (to_plan (drawing_from r)) → (p : Phase) → p ≡ drawing_phase (drawing_from d) floats bytes last
+      → p ≡ phase_of file floats bytes last
+  drawing_follows r A d planned p e = e ∙ ap (λ (x : drawn.Drawing). drawing_phase x floats bytes last) (planned_in file r A d planned) ∙ by_verdict refusal.accepted A.verdict_is

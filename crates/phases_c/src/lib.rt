@@ -6,31 +6,24 @@
 ghost use Rattle.std.specs.Prelude.{◌≡◌, length, replicate};
 ghost use Rattle.file_records.specs.Meaning.{settings_of};
 ghost use Rattle.file_drawing.specs.Back.{drawing_from};
-ghost use Rattle.graph_adjacency.specs.Lists.{adjacency};
 ghost use Rattle.graph_arrays.specs.Arrays.{graph_in};
 ghost use Rattle.repair_spec.specs.Distance.{zero_length};
 ghost use Rattle.planner_graph.specs.Answer.{Plannable};
 ghost use Rattle.planner.specs.Drawn.{Drawable};
 ghost use Rattle.phases_c.specs.Phases.{graph_phase, drawing_phase, phase_of};
 
-use file::Verdict;
 use file_drawing::Drawing;
 use file_records::Settings;
-use graph_nodes::BUCKETS;
-use limits::{ARC_ROOM, EDGE_ROOM, MOST_NODES, REFUSED_APART};
+use graph_adjacency::Adjacency;
+use graph_nodes::Table;
+use graph_strokes::Traced;
+use limits::REFUSED_APART;
 use phases::{GRAPH, ODD, Phase, READ, REPAIR};
 
-// No node, in the lists of nodes by their hash.
-const NO_NODE: u16 = MOST_NODES as u16;
-
-// Of the graph of n nodes and m edges in the arrays.
+// Of the graph of n nodes and m edges.
 fn phase_of_graph(
-    xs: &[u32; MOST_NODES],
-    ys: &[u32; MOST_NODES],
-    ends: &mut [u16; ARC_ROOM],
-    weights: &mut [f64; EDGE_ROOM],
-    next: &mut [u16; ARC_ROOM],
-    heads: &mut [u16; 2 * MOST_NODES],
+    nodes: &Table,
+    edges: &mut Adjacency,
     n: usize,
     m: usize,
     settings: Settings,
@@ -38,68 +31,42 @@ fn phase_of_graph(
     bytes: &mut [u8],
     last: u32,
 ) -> Phase
-    requires { Plannable settings n m xs.now ys.now (adjacency ends.old weights.old next.old heads.old) }
-    ensures { result ≡ graph_phase (graph_in n m xs.now ys.now (adjacency ends.old weights.old next.old heads.old)) (settings_of settings) (length floats.old) (length bytes.old) last }
+    requires { Plannable settings n m nodes.now.xs nodes.now.ys edges.old }
+    ensures { result ≡ graph_phase (graph_in n m nodes.now.xs nodes.now.ys edges.old) (settings_of settings) (length floats.old) (length bytes.old) last }
 {
     if last == GRAPH {
         return phases::made(n, m);
     }
-    let reached = graph_reach::all_reached(ends, weights, next, heads, n, m);
+    let reached = graph_reach::all_reached(edges, n, m);
     if !reached {
         return phases::refused(REFUSED_APART);
     }
     if last == ODD {
-        return phases::end_of_odd(ends, weights, next, heads, n, m);
+        return phases::end_of_odd(edges, n, m);
     }
-    let before_repair = last < REPAIR;
-    if before_repair {
-        return phases::end_of_pairs(
-            xs, ys, ends, weights, next, heads, n, m, settings, floats, bytes, last,
-        );
+    if last < REPAIR {
+        return phases::end_of_pairs(nodes, edges, n, m, settings, floats, bytes, last);
     }
-    phases::end_of_repair(
-        xs, ys, ends, weights, next, heads, n, m, settings, floats, bytes, last,
-    )
+    phases::end_of_repair(nodes, edges, n, m, settings, floats, bytes, last)
 }
 
 // Of a drawing: the number of its lines and of its links, or what a later phase made of its graph.
-fn phase_of_drawing(drawing: Drawing, floats: &mut [f64], bytes: &mut [u8], last: u32) -> Phase
-    requires { Drawable drawing }
-    ensures { result ≡ drawing_phase (drawing_from drawing) (length floats.old) (length bytes.old) last }
+fn phase_of_drawing(drawing: &Drawing, floats: &mut [f64], bytes: &mut [u8], last: u32) -> Phase
+    requires { Drawable drawing.now }
+    ensures { result ≡ drawing_phase (drawing_from drawing.now) (length floats.old) (length bytes.old) last }
 {
     if last == READ {
         return phases::made(drawing.lines, drawing.link_count);
     }
-    let settings = drawing.settings;
-    let mut xs = [0u32; MOST_NODES];
-    let mut ys = [0u32; MOST_NODES];
-    let mut older = [NO_NODE; MOST_NODES];
-    let mut buckets = [NO_NODE; BUCKETS];
-    let mut ends = [0u16; 2 * EDGE_ROOM];
-    let mut weights = [0.0f64; EDGE_ROOM];
-    let mut next = [0u16; 2 * EDGE_ROOM];
-    let mut heads = [0u16; 2 * MOST_NODES];
-    let t = graph::build_graph(
-        &mut xs,
-        &mut ys,
-        &mut older,
-        &mut buckets,
-        &mut ends,
-        &mut weights,
-        &mut next,
-        &mut heads,
-        drawing,
-    );
+    let mut made = Traced::new();
+    let traced = &mut made;
+    graph::build_graph(traced, drawing);
     phase_of_graph(
-        &xs,
-        &ys,
-        &mut ends,
-        &mut weights,
-        &mut next,
-        &mut heads,
-        t.nodes,
-        t.edges,
-        settings,
+        &traced.table,
+        &mut traced.edges,
+        traced.node_count,
+        traced.edge_count,
+        drawing.settings,
         floats,
         bytes,
         last,
@@ -110,17 +77,15 @@ fn phase_of_drawing(drawing: Drawing, floats: &mut [f64], bytes: &mut [u8], last
 fn phase_of_bytes(file: &[u8], floats: &mut [f64], bytes: &mut [u8], last: u32) -> Phase
     ensures { result ≡ phase_of file.now (length floats.old) (length bytes.old) last }
 {
-    let reading = file::read(file);
-    let verdict = reading.verdict;
-    match verdict {
-        Verdict::Refused(number) => phases::refused(number),
-        Verdict::Accepted => {
-            let linking = links_made::asked(reading.drawing.settings);
+    match file::read(file) {
+        Err(refusal) => phases::refused(refusal.number()),
+        Ok(drawing) => {
+            let linking = links_made::asked(drawing.settings);
             if !linking {
-                return phase_of_drawing(reading.drawing, floats, bytes, last);
+                return phase_of_drawing(&drawing, floats, bytes, last);
             }
-            let linked = links_made::link_ends(reading.drawing);
-            phase_of_drawing(linked, floats, bytes, last)
+            let linked = links_made::link_ends(drawing);
+            phase_of_drawing(&linked, floats, bytes, last)
         }
     }
 }

@@ -2,10 +2,11 @@
 // 4,001 points.
 #![tactic(auto)]
 
+use limits::MOST_BYTES;
 use planner_text::TEXT_ROOM;
 
-// A file of more than 65,536 bytes is refused, so that one byte more is enough of it.
-const FILE_ROOM: usize = 65_537;
+// A file that is longer than check 1 allows is refused, so that one byte more is enough of it.
+const FILE_ROOM: usize = MOST_BYTES + 1;
 
 // 2^12 + 12^2, and 2^12
 const FLOATS: usize = 4_240;

@@ -45,10 +45,9 @@ pub extern "C" fn plan(
     ensures tables { (floats.new ≡ (called file.now (call floats.old bytes.old output.old)).floats) × (bytes.new ≡ (called file.now (call floats.old bytes.old output.old)).bytes) }
     ensures demand3 { result.refusal ≡ 0 → Demand3 (drawing_in file.now) output.old output.new }
 {
-    let answer = planner::plan_file(file, floats, bytes, output);
-    match answer {
+    match planner::plan_file(file, floats, bytes, output) {
         Answer::Refused(number) => Outcome {
-            refusal: number as u32,
+            refusal: u32::from(number),
             retrace: 0.0,
             before: 0,
             after: 0,

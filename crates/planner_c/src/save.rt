@@ -6,7 +6,7 @@ ghost use Rattle.planner_c.specs.Saved.{saved_as, settings_given};
 
 use super::Saved;
 use file_records::Settings;
-use writer::Answer;
+use writer_records::Given;
 
 // Saves a drawing, whatever is handed in: `save` of crates/writer, with its answer and its destination, and that the bytes in front are the one
 // file without minus zero that reads back as the drawing. A coordinate is the 64 bits of an f64. Slices of any lengths may be given; 4
@@ -28,18 +28,24 @@ pub extern "C" fn save_drawing(
     ensures destination { destination.new ≡ (save_given (given (settings_given width height pairing flags) sizes.now coordinates.now segments.now ends.now) destination.old).destination }
     ensures one_file { result.refusal ≡ 0 → OneFile (sketch_given (given (settings_given width height pairing flags) sizes.now coordinates.now segments.now ends.now)) (take result.bytes destination.new) }
 {
-    let s = Settings {
+    let settings = Settings {
         width,
         height,
         pairing,
         flags,
     };
-    let answer = writer::save(destination, s, sizes, coordinates, segments, ends);
-    match answer {
-        Answer::Refused(number) => Saved {
-            refusal: number as u32,
+    let drawing = Given {
+        settings,
+        sizes,
+        coordinates,
+        segments,
+        ends,
+    };
+    match writer::save(destination, &drawing) {
+        Ok(bytes) => Saved { refusal: 0, bytes },
+        Err(refusal) => Saved {
+            refusal: u32::from(refusal.number()),
             bytes: 0,
         },
-        Answer::Written(bytes) => Saved { refusal: 0, bytes },
     }
 }

@@ -1,6 +1,7 @@
 -- The four ways through `plan_graph`, each by what its calls answered.
 use mathlib.Core.Path.{◌≡◌, refl, sym, ap, subst, ◌∙◌}
 use mathlib.Core.List.{List}
+use Rattle.std.specs.Prelude.{Option, Some, None}
 use mathlib.Core.Bool.{Bool, true, false}
 use Prim.Native.Nat.{ℕ}
 use native.Mathlib.Omega.{arith}
@@ -24,8 +25,6 @@ use Rattle.repair.specs.declared.Parity.TheVariants as fixed
 use Rattle.repair.specs.declared.Repair.{Repair}
 use Rattle.walk_spec.specs.Line.{line_of}
 use Rattle.planner_output.specs.Output.{emitted_by, output_by, emitted_of, output_with, short}
-use Rattle.planner_output.specs.declared.Emitted.{Emitted}
-use Rattle.planner_output.specs.declared.Emitted.TheVariants as emitted
 use Rattle.planner_spec.specs.Plan as plan
 use Rattle.planner_spec.proofs.Plan.{plan_apart}
 use Rattle.planner_graph.specs.Answer.{outcome_of, lent, Plannable}
@@ -64,16 +63,16 @@ module _ (t : Settings) (n m : ℕ) (xs ys : List ℕ) (a : Adjacency) (P : Plan
       abbrev line : List Point
       line = line_of (settings_of t) (nodes_in n xs ys) (edges_in r.edges a')
 
-      module _ (em : Emitted) (output' : List ℕ) (E : em ≡ emitted_of output line) (O : output' ≡ output_with output line) where
-        abbrev kind : Emitted → ℕ
-        kind emitted.Short = 0
-        kind (emitted.Points k) = 1
+      module _ (em : Option ℕ) (output' : List ℕ) (E : em ≡ emitted_of output line) (O : output' ≡ output_with output line) where
+        abbrev kind : Option ℕ → ℕ
+        kind None = 0
+        kind (Some k) = 1
 
-        abbrev count : Emitted → ℕ
-        count emitted.Short = 0
-        count (emitted.Points k) = k
+        abbrev count : Option ℕ → ℕ
+        count None = 0
+        count (Some k) = k
 
-        pub line_short : em ≡ emitted.Short → outcome_of (Refused refused_output) output' ≡ plan.plan_graph g (settings_of t) l
+        pub line_short : em ≡ None → outcome_of (Refused refused_output) output' ≡ plan.plan_graph g (settings_of t) l
         line_short i = go (short output (length line)) refl
           where
             go : (c : Bool) → short output (length line) ≡ c → outcome_of (Refused refused_output) output' ≡ plan.plan_graph g (settings_of t) l
@@ -82,7 +81,7 @@ module _ (t : Settings) (n m : ℕ) (xs ys : List ℕ) (a : Adjacency) (P : Plan
                 ∙ sym (short_planned g (settings_of t) l (reached_by_lem true h) x before after (edges_in r.edges a') M line refl z)
             go false z = absurd (let q : ◌≡◌ {A = ℕ} 0 1 = ap kind (sym i ∙ E ∙ ap (λ (c : Bool). emitted_by c (length line)) z) in omega arith)
 
-        pub line_points : (k : ℕ) → em ≡ emitted.Points k → outcome_of (Planned x before after k) output' ≡ plan.plan_graph g (settings_of t) l
+        pub line_points : (k : ℕ) → em ≡ Some k → outcome_of (Planned x before after k) output' ≡ plan.plan_graph g (settings_of t) l
         line_points k i = go (short output (length line)) refl
           where
             go : (c : Bool) → short output (length line) ≡ c → outcome_of (Planned x before after k) output' ≡ plan.plan_graph g (settings_of t) l

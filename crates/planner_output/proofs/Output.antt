@@ -7,6 +7,7 @@ use native.Mathlib.Omega.{arith}
 use lib.ListN.{length, get_or, take, length-map}
 use lib.Seq.{length-take-le}
 use borrow.Author.Tests.{lt-ltb, le-ltb}
+use Rattle.std.specs.Prelude.{Some, None}
 use Rattle.planner_spec.specs.LineRecord.{line_record}
 use Rattle.drawing_spec.specs.Bytes.{in_front}
 use Rattle.limits.specs.Limits.{most_nodes, line_room}
@@ -16,7 +17,6 @@ use Rattle.graph_arrays.specs.Arrays.{nodes_in}
 use Rattle.graph_arrays.specs.NodeList.{NodeList, points_along}
 use Rattle.graph_arrays.proofs.NodeList.{point_at_lem}
 use Rattle.record.specs.Written.{points_in}
-use Rattle.planner_output.specs.declared.Emitted.TheVariants as variant
 use Rattle.planner_output.specs.Output.{emitted_by, emitted_of, output_by, output_with, short}
 
 -- the points of nodes, as the code reads them and as the graph has them
@@ -43,11 +43,11 @@ module _ (n : ℕ) (xs ys output₀ line : List ℕ) (count : ℕ) (points : Lis
     output_is : output_by b output₀ points ≡ output_with output₀ points
     output_is = ap (λ (t : Bool). output_by t output₀ points) test_is
 
-  pub emitted_short : length output₀ < 6 + 16 * count → (variant.Short ≡ emitted_of output₀ points) × (output₀ ≡ output_with output₀ points)
+  pub emitted_short : length output₀ < 6 + 16 * count → (None ≡ emitted_of output₀ points) × (output₀ ≡ output_with output₀ points)
   emitted_short h = (emitted_is true (lt-ltb _ _ h), output_is true (lt-ltb _ _ h))
 
   pub emitted_whole : (output : List ℕ) → 6 + 16 * count ≤ length output₀ → output ≡ in_front (line_record (points_in xs ys line count)) output₀
-      → (variant.Points count ≡ emitted_of output₀ points) × (output ≡ output_with output₀ points)
+      → (Some count ≡ emitted_of output₀ points) × (output ≡ output_with output₀ points)
   emitted_whole output h w = (
     emitted_is false (le-ltb _ _ h),
     w ∙ ap (λ (ps : List Point). in_front (line_record ps) output₀) (same_points n xs ys line count l.nodes_in_known ∙ is) ∙ output_is false (le-ltb _ _ h),

@@ -25,7 +25,8 @@ const LINE_END: u8 = 10;
 
 const MINUS: u8 = 45;
 
-// Puts a byte at a place of the text; the answer is the place behind it, here and below.
+// Puts a byte at a place of the text; the answer is the place behind it, here and below. (A struct that lends the text and has the place
+// is no plainer: each method that takes it would need clauses of its own, that it still lends the same text.)
 fn put_byte(text: &mut [u8], at: usize, byte: u8) -> usize
     requires { at + 1 ≤ length text.old }
     ensures { Put text.old at (byte ∷ []) text.new result }
@@ -39,12 +40,9 @@ fn put_word(text: &mut [u8], at: usize, word: &[u8]) -> usize
     requires { at + length word.now ≤ length text.old }
     ensures { Put text.old at word.now text.new result }
 {
-    let mut i = 0;
-    while i < word.len() {
-        text[at + i] = word[i];
-        i += 1;
-    }
-    at + i
+    let end = at + word.len();
+    text[at..end].copy_from_slice(word);
+    end
 }
 
 // Puts a number in decimal.
@@ -88,9 +86,9 @@ fn put_steps(text: &mut [u8], at: usize, place: u32) -> usize
 {
     if place < ORIGIN {
         let behind = put_byte(text, at, MINUS);
-        return put_decimal(text, behind, (ORIGIN - place) as u64);
+        return put_decimal(text, behind, u64::from(ORIGIN - place));
     }
-    put_decimal(text, at, (place - ORIGIN) as u64)
+    put_decimal(text, at, u64::from(place - ORIGIN))
 }
 
 // Puts the point that stands in 16 bytes of the output, on a line of its own. The room asked for is more than it takes, since
@@ -115,10 +113,8 @@ fn put_points(text: &mut [u8], at: usize, output: &[u8], count: usize) -> usize
     ensures short { result ≤ at + 22 * count }
 {
     let mut behind = at;
-    let mut i = 0;
-    while i < count {
+    for i in 0..count {
         behind = put_point(text, behind, output, 6 + 16 * i);
-        i += 1;
     }
     behind
 }
@@ -143,15 +139,7 @@ pub fn put_refusal(text: &mut [u8], number: u8) -> usize
     ensures short { result ≤ 29 }
 {
     let behind = put_word(text, 0, b"refused ");
-    put_field(text, behind, number as u64, LINE_END)
-}
-
-// The bits of a retrace's length.
-fn bits_of(x: f64) -> u64
-    requires { Nonneg binary64 x }
-    ensures { result ≡ to_bits binary64 x }
-{
-    f64::to_bits(x)
+    put_field(text, behind, u64::from(number), LINE_END)
 }
 
 // What `plan` prints of an answer and of the output that goes with it, at the front of the text, whose later bytes keep their value.
@@ -165,7 +153,7 @@ pub fn text_of(answer: Answer, output: &[u8], text: &mut [u8]) -> usize
     match answer {
         Answer::Refused(number) => put_refusal(text, number),
         Answer::Planned(retrace, before, after, count) => {
-            let bits = bits_of(retrace);
+            let bits = retrace.to_bits();
             let behind = put_counts(text, bits, before, after, count);
             put_points(text, behind, output, count)
         }

@@ -1,11 +1,11 @@
 -- Laws of specs/Parity.
 use mathlib.Core.Path.{◌≡◌, refl, sym, ap, subst, ◌∙◌}
+use Rattle.std.specs.Prelude.{Result, Ok, Err}
 use mathlib.Core.List.{List, []}
 use Prim.Native.Nat.{ℕ}
 use native.Mathlib.Omega.{arith}
-use lib.ListN.{length, replicate, length-replicate}
+use lib.ListN.{length}
 use lib.Ieee.{Float}
-use Rattle.limits.specs.Limits.{most_pairs}
 use Rattle.drawing_spec.specs.Drawing.{Settings, closing}
 use Rattle.drawing_spec.specs.Refusal.{Verdict, refused, accepted, verdict}
 use Rattle.graph_spec.specs.Graph.{Graph}
@@ -15,25 +15,17 @@ use Rattle.graph_arrays.specs.Arrays.{nodes_in, edges_in, graph_in, EdgesHeld}
 use Rattle.graph_arrays.proofs.NodeList.{nodes_count}
 use Rattle.repair_spec.specs.Distance.{zero_length}
 use Rattle.repair_spec.specs.Pairing.{Pair}
-use Rattle.repair_spec.specs.PairsIn.{pairs_in, PairRoom}
+use Rattle.repair_spec.specs.PairsIn.{PairList, listed}
 use Rattle.repair_spec.specs.Repair.{Repairing, pairs_of, apply_matching, close_if, fix_parity}
 use Rattle.repair_retrace.specs.Outcome.{RepairOutcome, outcome, so_far}
 use Rattle.repair_retrace.specs.Answer.{outcome_in, HeldAfter}
-use Rattle.repair_retrace.specs.declared.Applied.{Applied}
-use Rattle.repair_retrace.specs.declared.Applied.TheVariants.{Laid, Refused}
+use Rattle.repair_retrace.specs.declared.Laid.{Laid}
 use Rattle.repair_pairs.specs.Refusal.{table_conditions}
 use Rattle.repair_pairs.specs.Pairs as found
-use Rattle.repair_pairs.specs.Meaning.{found_in}
-use Rattle.repair_pairs.specs.declared.Pairs.{Pairs}
-use Rattle.repair_pairs.specs.declared.Pairs.TheVariants as pairsCase
 use Rattle.repair_pairs.specs.Pairs.{Found, pairs_for}
 use Rattle.repair_pairs.proofs.Few.{fix_parity_is}
 use Rattle.repair_pairs.proofs.Usable.{Usable, pairs_usable}
 use Rattle.repair.specs.Parity.{Value, refusal, values, value_of, parity_for}
-
--- the two arrays that are lent for pairs
-pub pairs_room : PairRoom (replicate most_pairs 0) (replicate most_pairs 0)
-pairs_room = record { firsts_long = omega (arith, length-replicate {A = ℕ} most_pairs 0); seconds_long = omega (arith, length-replicate {A = ℕ} most_pairs 0) }
 
 odd_of : Graph → List ℕ
 odd_of g = odd_nodes (length g.nodes) g.edges
@@ -71,14 +63,6 @@ pairs_from : Found → List Pair
 pairs_from (found.refusal k) = []
 pairs_from (found.pairs odd ps) = ps
 
--- what the code's answer says, by its case
-module _ (r : Pairs) (fs ss : List ℕ) (f : Found) (is : found_in r fs ss ≡ f) where
-  pub found_refusal : (k : ℕ) → r ≡ pairsCase.Refused k → found.refusal k ≡ f
-  found_refusal k e = ap (λ (q : Pairs). found_in q fs ss) (sym e) ∙ is
-
-  pub found_some : (odd count : ℕ) → r ≡ pairsCase.Found odd count → found.pairs odd (pairs_in fs ss 0 count) ≡ f
-  found_some odd count e = ap (λ (q : Pairs). found_in q fs ss) (sym e) ∙ is
-
 -- where there are pairs, they are those of the definition, and the odd nodes are counted
 found_is : (g : Graph) (s : Settings) (floats bytes odd : ℕ) (ps : List Pair) → found.pairs odd ps ≡ pairs_for g s floats bytes
     → (odd ≡ length (odd_of g)) × (ps ≡ pairs_of g s (odd_of g))
@@ -90,19 +74,19 @@ found_is g s floats bytes odd ps e = go (verdict (table_conditions s (length (od
     go (refused k) q = let z : ◌≡◌ {A = ℕ} 0 1 = cc in absurd (omega arith)
     go accepted q = (ap odd_in q, ap pairs_from q)
 
-module _ (most number n m : ℕ) (xs ys : List ℕ) (a : Adjacency) (E : EdgesHeld n m a) (s : Settings) (floats bytes odd count : ℕ) (fs ss : List ℕ)
-    (F : found.pairs odd (pairs_in fs ss 0 count) ≡ pairs_for (graph_in n m xs ys a) s floats bytes) where
+module _ (most number n m : ℕ) (xs ys : List ℕ) (a : Adjacency) (E : EdgesHeld n m a) (s : Settings) (floats bytes odd : ℕ) (p : PairList)
+    (F : found.pairs odd (listed p) ≡ pairs_for (graph_in n m xs ys a) s floats bytes) where
   same_odd : odd_of (graph_in n m xs ys a) ≡ odd_nodes n (edges_in m a)
   unfolding odd_of
   same_odd = ap (λ (k : ℕ). odd_nodes k (edges_in m a)) (nodes_count n xs ys)
 
-  pub found_usable : Usable n count fs ss
+  pub found_usable : Usable n p.count p.firsts p.seconds
   found_usable =
       let ps = (found_is (graph_in n m xs ys a) s floats bytes odd _ F).1 in
-      pairs_usable n E.edges.few_nodes (edges_in m a) E.edges.inside (graph_in n m xs ys a) s count fs ss (ps ∙ ap (pairs_of (graph_in n m xs ys a) s) same_odd)
+      pairs_usable n E.edges.few_nodes (edges_in m a) E.edges.inside (graph_in n m xs ys a) s p.count p.firsts p.seconds (ps ∙ ap (pairs_of (graph_in n m xs ys a) s) same_odd)
 
   retraced : Repairing
-  retraced = close_if (closing s) most number n (apply_matching most number n (pairs_in fs ss 0 count) (so_far (edges_in m a) zero_length))
+  retraced = close_if (closing s) most number n (apply_matching most number n (listed p) (so_far (edges_in m a) zero_length))
 
   retraced_is : retraced ≡ fix_parity most number (graph_in n m xs ys a) s
   unfolding retraced odd_of
@@ -113,7 +97,7 @@ module _ (most number n m : ℕ) (xs ys : List ℕ) (a : Adjacency) (E : EdgesHe
       ∙ sym (fix_parity_is most number (graph_in n m xs ys a) s)
 
   -- what the retraces leave is the answer
-  pub parity_retraced : (o : RepairOutcome) → o ≡ outcome (close_if (closing s) most number n (apply_matching most number n (pairs_in fs ss 0 count) (so_far (edges_in m a) zero_length)))
+  pub parity_retraced : (o : RepairOutcome) → o ≡ outcome (close_if (closing s) most number n (apply_matching most number n (listed p) (so_far (edges_in m a) zero_length)))
       → value_of n odd o ≡ parity_for most number (graph_in n m xs ys a) s floats bytes
   unfolding retraced
   parity_retraced o e =
@@ -125,13 +109,13 @@ module _ (most number n m : ℕ) (xs ys : List ℕ) (a : Adjacency) (E : EdgesHe
 
 -- ---- the odd nodes of the repaired graph, counted
 
-module _ (n before : ℕ) (a : Adjacency) (laid : Applied) where
-  pub counted_refused : (k : ℕ) → laid ≡ Refused k → refusal k ≡ value_of n before (outcome_in laid a)
-  counted_refused k e = ap (λ (l : Applied). value_of n before (outcome_in l a)) (sym e)
+module _ (n before : ℕ) (a : Adjacency) (laid : Result Laid ℕ) where
+  pub counted_refused : (k : ℕ) → laid ≡ Err k → refusal k ≡ value_of n before (outcome_in laid a)
+  counted_refused k e = ap (λ (l : Result Laid ℕ). value_of n before (outcome_in l a)) (sym e)
 
-  module _ (x : Float) (m : ℕ) (is : laid ≡ Laid x m) where
-    pub counted : (after : ℕ) → after ≡ length (odd_nodes n (edges_in m a)) → values x before after (edges_in m a) ≡ value_of n before (outcome_in laid a)
-    counted after c = ap (λ (k : ℕ). values x before k (edges_in m a)) c ∙ ap (λ (l : Applied). value_of n before (outcome_in l a)) (sym is)
+  module _ (l : Laid) (is : laid ≡ Ok l) where
+    pub counted : (after : ℕ) → after ≡ length (odd_nodes n (edges_in l.edges a)) → values l.sum before after (edges_in l.edges a) ≡ value_of n before (outcome_in laid a)
+    counted after c = ap (λ (k : ℕ). values l.sum before k (edges_in l.edges a)) c ∙ ap (λ (r : Result Laid ℕ). value_of n before (outcome_in r a)) (sym is)
 
-    pub counted_held : HeldAfter n laid a → EdgesHeld n m a
-    counted_held h = subst (λ (l : Applied). HeldAfter n l a) is h
+    pub counted_held : HeldAfter n laid a → EdgesHeld n l.edges a
+    counted_held h = subst (λ (r : Result Laid ℕ). HeldAfter n r a) is h

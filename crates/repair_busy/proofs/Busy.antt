@@ -33,8 +33,10 @@ use Rattle.repair_spec.specs.Pairing.{Pair, nearest_pairs, apart, greedy_pairs, 
 use Rattle.repair_spec.specs.PairsIn.{pairs_in}
 use Rattle.repair_spec.proofs.Choices.{cost_same}
 use Rattle.repair_spec.proofs.Alike.{all_from, nearest_ends, SameOrder, pairs_alike}
+use Rattle.repair_greedy.specs.declared.Distances.{Distances}
+use Rattle.repair_greedy.specs.Costs.{entry_of}
 use Rattle.repair_greedy.proofs.Costs.{index_inside}
-use Rattle.repair_busy.specs.Table.{entry_of, Placed, Numbers, Tabled, BusyBy, busy_for}
+use Rattle.repair_busy.specs.Table.{Placed, Numbers, Tabled, BusyBy, busy_for}
 
 -- ---- what the pairs cost, one after the other
 
@@ -67,55 +69,55 @@ all_listed odd count long =
     let all = length-take-le count odd long in
     all_from (Listed odd count) (take count odd) (λ i h. let here : i < count = omega arith in (i, here, sym (get_or-take count odd i 0 here)))
 
-module _ (ns : List Point) (odd : List ℕ) (count : ℕ) (long : count ≤ length odd) (table : List Float) (places : List ℕ) (P : Placed odd count count places)
-    (d : ℕ → ℕ → Float) (T : Tabled d odd count table) where
-  at_place : (u : ℕ) → Listed odd count u → get_or odd (get_or places u 0) 0 ≡ u
-  at_place u l = let e = l.2 in ap (λ (v : ℕ). get_or odd (get_or places v 0) 0) (sym e) ∙ P.right l.0 l.1 ∙ e
+module _ (ns : List Point) (odd : List ℕ) (D : Distances) (long : D.size ≤ length odd) (P : Placed odd D.size D.size D.places)
+    (d : ℕ → ℕ → Float) (T : Tabled d odd D.size D.table.now) where
+  at_place : (u : ℕ) → Listed odd D.size u → get_or odd (get_or D.places u 0) 0 ≡ u
+  at_place u l = let e = l.2 in ap (λ (v : ℕ). get_or odd (get_or D.places v 0) 0) (sym e) ∙ P.right l.0 l.1 ∙ e
 
-  entry_known : (u v : ℕ) → Listed odd count u → Listed odd count v → entry_of table places count u v ≡ d u v
+  entry_known : (u v : ℕ) → Listed odd D.size u → Listed odd D.size v → entry_of D u v ≡ d u v
   entry_known u v l k =
-      sym (T.entries (get_or places u 0) (get_or places v 0) (P.inside u) (P.inside v)) ∙ ap (λ (w : ℕ). d w (get_or odd (get_or places v 0) 0)) (at_place u l) ∙ ap (d u) (at_place v k)
+      sym (T.entries (get_or D.places u 0) (get_or D.places v 0) (P.inside u) (P.inside v)) ∙ ap (λ (w : ℕ). d w (get_or odd (get_or D.places v 0) 0)) (at_place u l) ∙ ap (d u) (at_place v k)
 
   abbrev vs : List ℕ
-  vs = take count odd
+  vs = take D.size odd
 
   abbrev by_table : ℕ → ℕ → Float
-  by_table = entry_of table places count
+  by_table = entry_of D
 
-  entry_number : Numbers count table → (u v : ℕ) → Nonneg binary64 (by_table u v)
-  entry_number N u v = N.numbers _ (index_inside (get_or places u 0) (get_or places v 0) count (P.inside u) (P.inside v))
+  entry_number : Numbers D.size D.table.now → (u v : ℕ) → Nonneg binary64 (by_table u v)
+  entry_number N u v = N.numbers _ (index_inside (get_or D.places u 0) (get_or D.places v 0) D.size (P.inside u) (P.inside v))
 
   -- the code compares the bits of the table's entries, the definition the distances
-  same_order : Numbers count table → SameOrder (Listed odd count) ltb (λ (u v : ℕ). to_bits binary64 (by_table u v)) lt d
+  same_order : Numbers D.size D.table.now → SameOrder (Listed odd D.size) ltb (λ (u v : ℕ). to_bits binary64 (by_table u v)) lt d
   same_order N = record {
     order = λ u v a b hu hv ha hb.
         bits_order (by_table u v) (by_table a b) (entry_number N u v) (entry_number N a b)
         ∙ ap (λ (x : Float). lt x (by_table a b)) (entry_known u v hu hv) ∙ ap (lt (d u v)) (entry_known a b ha hb);
   }
 
-  module _ (N : Numbers count table) (ps qs : List Pair) (x y : Float) (greedy : ps ≡ greedy_pairs count ns vs) (near : qs ≡ nearest_pairs ltb count (λ (u v : ℕ). to_bits binary64 (by_table u v)) vs)
+  module _ (N : Numbers D.size D.table.now) (ps qs : List Pair) (x y : Float) (greedy : ps ≡ greedy_pairs D.size ns vs) (near : qs ≡ nearest_pairs ltb D.size (λ (u v : ℕ). to_bits binary64 (by_table u v)) vs)
       (paid : x ≡ cost_of by_table ps) (asked : y ≡ cost_of by_table qs) where
     greedy_all : ps ≡ greedy_pairs (length vs) ns vs
-    greedy_all = greedy ∙ ap (λ (k : ℕ). greedy_pairs k ns vs) (sym (length-take-le count odd long))
+    greedy_all = greedy ∙ ap (λ (k : ℕ). greedy_pairs k ns vs) (sym (length-take-le D.size odd long))
 
     near_all : qs ≡ graph_pairs d vs
     unfolding graph_pairs
     near_all =
         near
-        ∙ pairs_alike (Listed odd count) ltb (λ (u v : ℕ). to_bits binary64 (by_table u v)) lt d (same_order N) count vs (all_listed odd count long)
-        ∙ ap (λ (k : ℕ). nearest_pairs lt k d vs) (sym (length-take-le count odd long))
+        ∙ pairs_alike (Listed odd D.size) ltb (λ (u v : ℕ). to_bits binary64 (by_table u v)) lt d (same_order N) D.size vs (all_listed odd D.size long)
+        ∙ ap (λ (k : ℕ). nearest_pairs lt k d vs) (sym (length-take-le D.size odd long))
 
     paid_is : x ≡ cost_of d (greedy_pairs (length vs) ns vs)
     unfolding cost_of greedy_pairs
     paid_is =
         paid ∙ ap (cost_of by_table) greedy_all
-        ∙ cost_same (Listed odd count) by_table d entry_known (greedy_pairs (length vs) ns vs) zero_length (nearest_ends (Listed odd count) ltb (length vs) (apart ns) vs (all_listed odd count long))
+        ∙ cost_same (Listed odd D.size) by_table d entry_known (greedy_pairs (length vs) ns vs) zero_length (nearest_ends (Listed odd D.size) ltb (length vs) (apart ns) vs (all_listed odd D.size long))
 
     asked_is : y ≡ cost_of d (graph_pairs d vs)
     unfolding cost_of graph_pairs
     asked_is =
         asked ∙ ap (cost_of by_table) near_all
-        ∙ cost_same (Listed odd count) by_table d entry_known (graph_pairs d vs) zero_length (nearest_ends (Listed odd count) lt (length vs) d vs (all_listed odd count long))
+        ∙ cost_same (Listed odd D.size) by_table d entry_known (graph_pairs d vs) zero_length (nearest_ends (Listed odd D.size) lt (length vs) d vs (all_listed odd D.size long))
 
     chosen_by : (t : Bool) → le x y ≡ t → busy_pairs ns d vs ≡ elim t [ true ↦ greedy_pairs (length vs) ns vs | false ↦ graph_pairs d vs ]
     unfolding busy_pairs less_costly

@@ -1,4 +1,4 @@
--- How closing ends, by what code finds: whether the line is to be closed, the odd nodes, and the answer of the last retrace. Assumes nothing.
+-- How closing ends, by what code finds: whether the line is to be closed, the odd nodes, and the answer of the last retrace.
 use mathlib.Core.Path.{◌≡◌, refl, sym, ap, subst, ◌∙◌}
 use mathlib.Core.List.{List, [], ◌∷◌}
 use mathlib.Core.Bool.{Bool, true, false}
@@ -20,8 +20,8 @@ use Rattle.repair_spec.specs.Repair.{Repair, Repairing, stopped, repaired, with_
 use Rattle.repair_spec.proofs.Repaired.{odd_at}
 use Rattle.repair_copies.specs.Laying.{laid_of}
 use Rattle.repair_retrace.specs.Outcome.{RepairOutcome, refused, done, outcome, so_far}
-use Rattle.repair_retrace.specs.declared.Applied.{Applied}
-use Rattle.repair_retrace.specs.declared.Applied.TheVariants.{Laid, Refused}
+use Rattle.std.specs.Prelude.{Result, Ok, Err}
+use Rattle.repair_retrace.specs.declared.Laid.{Laid}
 use Rattle.repair_retrace.specs.Answer.{Answers}
 use Rattle.repair_retrace.proofs.Outcome.{forget}
 
@@ -68,15 +68,15 @@ module _ (most number n : ℕ) where
           ∙ sym (added_same r.sum (apply_matching most number n last (so_far r.edges zero_length)))
 
   -- after the pairs, whose repair is x
-  pub close_refused : (b : Bool) (x : Repairing) (k : ℕ) (a : Adjacency) → Answers n x (Refused k) a → Answers n (close_if b most number n x) (Refused k) a
+  pub close_refused : (b : Bool) (x : Repairing) (k : ℕ) (a : Adjacency) → Answers n x (Err k) a → Answers n (close_if b most number n x) (Err k) a
   unfolding close_if
   close_refused b (stopped j) k a A = record { is = A.is; held = tt }
   close_refused b (repaired r) k a A = let e = A.is in let w : ◌≡◌ {A = ℕ} 0 1 = cc in absurd (omega arith)
 
-  pub close_after : (b : Bool) (x : Repairing) (sum : Float) (m : ℕ) (a : Adjacency) → Answers n x (Laid sum m) a → (answer : Applied) (a' : Adjacency)
-      → Answers n (close_if b most number n (repaired (so_far (edges_in m a) sum))) answer a' → Answers n (close_if b most number n x) answer a'
-  close_after b (stopped j) sum m a A answer a' C = let e = A.is in let w : ◌≡◌ {A = ℕ} 0 1 = cc in absurd (omega arith)
-  close_after b (repaired r) sum m a A answer a' C = record { is = C.is ∙ sym (forget_close b r ∙ sym (ap again A.is)); held = C.held }
+  pub close_after : (b : Bool) (x : Repairing) (l : Laid) (a : Adjacency) → Answers n x (Ok l) a → (answer : Result Laid ℕ) (a' : Adjacency)
+      → Answers n (close_if b most number n (repaired (so_far (edges_in l.edges a) l.sum))) answer a' → Answers n (close_if b most number n x) answer a'
+  close_after b (stopped j) l a A answer a' C = let e = A.is in let w : ◌≡◌ {A = ℕ} 0 1 = cc in absurd (omega arith)
+  close_after b (repaired r) l a A answer a' C = record { is = C.is ∙ sym (forget_close b r ∙ sym (ap again A.is)); held = C.held }
     where
       again : RepairOutcome → RepairOutcome
       again (refused k) = refused k
@@ -91,12 +91,12 @@ module _ (most number n : ℕ) where
     abbrev whole : Repairing
     whole = close_if b most number n (repaired (so_far es sum))
 
-    pub answers_open : b ≡ false → Answers n whole (Laid sum m) a
+    pub answers_open : b ≡ false → Answers n whole (Ok (record { sum = sum; edges = m })) a
     answers_open e = record { is = sym (ap outcome (ap (λ (b : Bool). close_if b most number n (repaired (so_far es sum))) e ∙ open_is (so_far es sum))); held = H }
 
     -- nor are there pairs
     pub answers_nothing : b ≡ false → sum ≡ zero_length → (fs ss : List ℕ) (pairs : ℕ) → pairs ≡ 0
-        → Answers n (close_if b most number n (apply_matching most number n (pairs_in fs ss 0 pairs) (so_far es zero_length))) (Laid sum m) a
+        → Answers n (close_if b most number n (apply_matching most number n (pairs_in fs ss 0 pairs) (so_far es zero_length))) (Ok (record { sum = sum; edges = m })) a
     unfolding apply_matching pairs_in
     answers_nothing e z fs ss pairs none = rw (none, sym z) (answers_open e)
 
@@ -104,7 +104,7 @@ module _ (most number n : ℕ) where
       by_count : (t : Bool) → eqb (length (odd_nodes n es)) 2 ≡ t → outcome (ByCount (so_far es sum) t) ≡ outcome whole
       by_count t e = sym (ap outcome (ap (λ (b : Bool). close_if b most number n (repaired (so_far es sum))) on ∙ close_is (so_far es sum) ∙ ap (ByCount (so_far es sum)) e))
 
-      pub answers_none : (count ≡ 2 → ⊥) → Answers n whole (Laid sum m) a
+      pub answers_none : (count ≡ 2 → ⊥) → Answers n whole (Ok (record { sum = sum; edges = m })) a
       answers_none h = record { is = by_count false (ne_eqb (length (odd_nodes n es)) 2 (λ e. h (F.counts ∙ e))); held = H }
 
       node : (j : ℕ) → j < count → get_or odd j 0 ≡ get_or (odd_nodes n es) j 0
@@ -127,8 +127,8 @@ module _ (most number n : ℕ) where
             ∙ sym (added_same sum (apply_matching most number n (last_pair n es ∷ []) (so_far es zero_length)))
             ∙ by_count true (eq-eqb (length (odd_nodes n es)) 2 (sym F.counts ∙ two))
 
-        pub answers_refused : (k : ℕ) (a' : Adjacency) → Answers n last (Refused k) a' → Answers n whole (Refused k) a'
+        pub answers_refused : (k : ℕ) (a' : Adjacency) → Answers n last (Err k) a' → Answers n whole (Err k) a'
         answers_refused k a' A = record { is = joined _ A.is; held = tt }
 
-        pub answers_joined : (x : Float) (k : ℕ) (a' : Adjacency) → Answers n last (Laid x k) a' → Answers n whole (Laid (add binary64 sum x) k) a'
-        answers_joined x k a' A = record { is = joined _ A.is; held = A.held }
+        pub answers_joined : (l : Laid) (a' : Adjacency) → Answers n last (Ok l) a' → Answers n whole (Ok (record { sum = add binary64 sum l.sum; edges = l.edges })) a'
+        answers_joined l a' A = record { is = joined _ A.is; held = A.held }

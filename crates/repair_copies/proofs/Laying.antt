@@ -1,4 +1,4 @@
--- Copies laid along a path in the arrays, one by one: each is that of `lay`. Assumes nothing.
+-- Copies laid along a path in the arrays, one by one: each is that of `lay`.
 use mathlib.Core.Path.{◌≡◌, refl, sym, ap, subst, ◌∙◌}
 use mathlib.Core.List.{List, [], ◌∷◌, ◌++◌}
 use mathlib.Core.Bool.{Bool, true, false}

@@ -16,7 +16,7 @@ use Rattle.graph_arrays.specs.Arrays.{edges_in, EdgesHeld}
 use Rattle.graph_arrays.specs.NodeList.{NodeList}
 use Rattle.repair_spec.specs.Distance.{infinity, distance_at, distances}
 use Rattle.repair_search.specs.Search.{Found}
-use Rattle.repair_search.proofs.Search.{all_same}
+use Rattle.repair_search.proofs.Searching.{all_same}
 use Rattle.repair_distances.specs.Rows.{Copied, SameBefore, Row, Rows}
 
 pub copied_none : (at : List Float) (odd : List ℕ) (start : ℕ) (ws : List Float) → Copied at odd 0 start ws ws

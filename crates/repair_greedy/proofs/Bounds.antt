@@ -3,17 +3,14 @@ use mathlib.Core.Path.{◌≡◌, refl, sym, ap, subst, ◌∙◌}
 use mathlib.Core.Logic.{inl, inr}
 use mathlib.Core.Bool.{Bool, true, false}
 use mathlib.Core.List.{List, [], ◌∷◌}
-use Prim.Native.Nat.{ℕ, zero, suc, ◌+◌, ◌-◌, ◌^◌, ◌≤◌, ◌<◌, zero-le}
+use Prim.Native.Nat.{ℕ, zero, suc, ◌+◌, ◌-◌, ◌≤◌, ◌<◌, zero-le}
 use native.Mathlib.Omega.{arith}
 use lib.ListN.{length, get_or, take, drop, set, replicate}
 use lib.Seq.{get_or-set_other}
-use lib.Ieee.{Float}
 use lib.Dec.{eqb, ltb}
 use borrow.Author.Tests.{eqb-true, eqb-false}
 use Rattle.lists.proofs.Elements.{set_cases, get_d_same}
 use Rattle.repair_spec.specs.Pairing.{nothing, between, closest_to}
-use Rattle.repair_greedy.specs.Costs.{cost_in, CostsHeld}
-use Rattle.repair_greedy.proofs.Costs.{cost_small}
 use Rattle.repair_greedy.proofs.Rows.{row_skipped, row_least}
 use Rattle.repair_greedy.specs.Bounds.{Bounds, cost_at}
 
@@ -73,12 +70,6 @@ module _ (cost : ℕ → ℕ → ℕ) (w : List ℕ) (n : ℕ) (long : n ≤ len
   row_bounds lows i a b d B e =
       bounds_set cost w n lows i d B (λ j h k. row_least cost w n long (get_or w i 0) i (i + 1) a b d nothing e j (omega arith) k)
 
--- a cost that is found leaves room for one more
-pub row_small : (by_table : Bool) (xs ys : List ℕ) (table : List Float) (places : List ℕ) (size : ℕ) (w : List ℕ) (n i a b d : ℕ) → n ≤ length w → CostsHeld by_table xs ys table places size
-    → i + 1 < n → closest_to ltb (cost_in by_table xs ys table places size) (get_or w i 0) i (drop (i + 1) (take n w)) (i + 1) nothing ≡ between a b d → d ≤ 2 ^ 63
-row_small by_table xs ys table places size w n i a b d long H h e =
-    omega (
-      arith,
-      row_least (cost_in by_table xs ys table places size) w n long (get_or w i 0) i (i + 1) a b d nothing e (i + 1) (omega arith) h,
-      cost_small by_table xs ys table places size H (get_or w i 0) (get_or w (i + 1) 0),
-    )
+  -- it is no more than that of the row's first place
+  pub row_small : (i a b d : ℕ) → i + 1 < n → closest_to ltb cost (get_or w i 0) i (drop (i + 1) (take n w)) (i + 1) nothing ≡ between a b d → d ≤ cost_at cost w i (i + 1)
+  row_small i a b d h e = row_least cost w n long (get_or w i 0) i (i + 1) a b d nothing e (i + 1) (omega arith) h

@@ -13,7 +13,7 @@ use Rattle.limits.specs.Limits.{most_pairs, most_nodes}
 use Rattle.repair_spec.specs.Pairing.{Pair, pair, nothing, between, closest, swap_remove, nearest_pairs}
 use Rattle.repair_spec.proofs.Pairs.{Places, closest_places}
 use Rattle.repair_spec.proofs.Alike.{turn, turn_is}
-use Rattle.repair_spec.specs.PairsIn.{pairs_in, PairRoom, PairsAmong}
+use Rattle.repair_spec.specs.PairsIn.{PairList, pairs_in, listed, PairRoom, PairsAmong, pushed}
 use Rattle.repair_spec.proofs.PairsIn.{pairs_more, room_more}
 use Rattle.graph_arrays.specs.NodeList.{NodeList}
 use Rattle.repair_greedy.proofs.Costs.{nodes_removed}
@@ -76,18 +76,18 @@ round_bounds cost w n i j lows h k B =
     (bounds_removed cost (moved w n j) (n - 1) (set lows j 0) i (omega arith) (bounds_removed cost w n lows j k B))
 
 -- the round by its steps: the place j goes, then the place i
-pub round_done : (cost : ℕ → ℕ → ℕ) (w w₁ w₂ lows lows₁ lows₂ : List ℕ) (n i j d count : ℕ) (fs ss : List ℕ) → 2 < n → n ≤ length w → Bounds cost w n lows
-    → closest ltb cost (take n w) 0 nothing ≡ between i j d
-    → w₁ ≡ set w j (get_or w (n - 1) 0) → lows₁ ≡ set lows j 0 → w₂ ≡ set w₁ i (get_or w₁ (n - 2) 0) → lows₂ ≡ set lows₁ i 0
-    → Bounds cost w₂ (n - 2) lows₂ × Round cost n count w w₂ fs (set fs count (get_or w i 0)) ss (set ss count (get_or w j 0))
-round_done cost w w₁ w₂ lows lows₁ lows₂ n i j d count fs ss h long B is e₁ g₁ e₂ g₂ =
+pub round_done : (cost : ℕ → ℕ → ℕ) (w w₁ w₂ lows lows₁ lows₂ : List ℕ) (n n₁ n₂ i j d : ℕ) (p p' : PairList) → 2 < n → n ≤ length w → Bounds cost w n lows
+    → closest ltb cost (take n w) 0 nothing ≡ between i j d → p' ≡ pushed (get_or w i 0) (get_or w j 0) p
+    → w₁ ≡ set w j (get_or w (n - 1) 0) → n₁ ≡ n - 1 → lows₁ ≡ set lows j 0 → w₂ ≡ set w₁ i (get_or w₁ (n₁ - 1) 0) → n₂ ≡ n₁ - 1 → lows₂ ≡ set lows₁ i 0
+    → (n₂ ≡ n - 2) × Bounds cost w₂ n₂ lows₂ × Round cost n w w₂ p p'
+round_done cost w w₁ w₂ lows lows₁ lows₂ n n₁ n₂ i j d p p' h long B is q e₁ m₁ g₁ e₂ m₂ g₂ =
     let at = found_places cost w n i j d long is (omega arith) in
-    let less : n - 2 ≡ n - 1 - 1 = omega arith in
-    let e : w₂ ≡ without w n i j = e₂ ∙ ap (λ (l : List ℕ). set l i (get_or l (n - 2) 0)) e₁ ∙ ap (λ (m : ℕ). set (moved w n j) i (get_or (moved w n j) m 0)) less in
+    let two : n₂ ≡ n - 2 = omega arith in
+    let e : w₂ ≡ without w n i j = e₂ ∙ ap (λ (l : List ℕ). set l i (get_or l (n₁ - 1) 0)) e₁ ∙ ap (λ (m : ℕ). set (moved w n j) i (get_or (moved w n j) (m - 1) 0)) m₁ in
     let g : lows₂ ≡ set (set lows j 0) i 0 = g₂ ∙ ap (λ (l : List ℕ). set l i 0) g₁ in (
-      subst (λ (l : List ℕ). Bounds cost w₂ (n - 2) l) (sym g)
-          (subst (λ (l : List ℕ). Bounds cost l (n - 2) (set (set lows j 0) i 0)) (sym e) (round_bounds cost w n i j lows at.0 at.1 B)),
-      record { from = i; to = j; at = d; nearest = is; first = refl; second = refl; rest = e },
+      two,
+      rw (two, g, e) (round_bounds cost w n i j lows at.0 at.1 B),
+      record { from = i; to = j; at = d; nearest = is; next = q; rest = e },
     )
 
 among_more : (fs ss : List ℕ) (count : ℕ) → PairRoom fs ss → count < most_pairs → (u v : ℕ) → u < most_nodes → v < most_nodes → PairsAmong most_nodes fs ss count
@@ -104,54 +104,61 @@ among_more fs ss count room h u v hu hv A = record {
   ];
 }
 
--- ---- all rounds: `count` pairs are written, and `left` nodes of the working list w are to be paired
+-- ---- all rounds: `left` nodes of the working list w are to be paired
 
-pub record Writing (cost : ℕ → ℕ → ℕ) (all left count : ℕ) (w₀ w fs ss : List ℕ) : Type 0 where
-  pub sum : left + 2 * count ≡ all
+pub record Writing (cost : ℕ → ℕ → ℕ) (all left : ℕ) (w₀ w : List ℕ) (p : PairList) : Type 0 where
+  pub sum : left + 2 * p.count ≡ all
   pub nodes : NodeList most_nodes most_nodes w left
-  pub room : PairRoom fs ss
-  pub among : PairsAmong most_nodes fs ss count
-  pub pairs : pairs_in fs ss 0 count ++ nearest_pairs ltb (all - count) cost (take left w) ≡ nearest_pairs ltb all cost (take all w₀)
+  pub room : PairRoom p.firsts p.seconds
+  pub among : PairsAmong most_nodes p.firsts p.seconds p.count
+  pub pairs : listed p ++ nearest_pairs ltb (all - p.count) cost (take left w) ≡ nearest_pairs ltb all cost (take all w₀)
 
 module _ (cost : ℕ → ℕ → ℕ) (all : ℕ) (w₀ : List ℕ) where
-  pub writing_start : (fs ss : List ℕ) → NodeList most_nodes most_nodes w₀ all → PairRoom fs ss → Writing cost all all 0 w₀ w₀ fs ss
+  pub writing_start : (p : PairList) → p.count ≡ 0 → NodeList most_nodes most_nodes w₀ all → PairRoom p.firsts p.seconds → Writing cost all all w₀ w₀ p
   unfolding pairs_in
-  writing_start fs ss W R =
-      let e : all - 0 ≡ all = omega arith in
-      record { sum = omega arith; nodes = W; room = R; among = record { among = λ j h. absurd (omega arith) }; pairs = ap (λ (k : ℕ). nearest_pairs ltb k cost (take all w₀)) e }
+  writing_start p none W R =
+      let e : all - p.count ≡ all = omega arith in
+      record {
+        sum = omega arith;
+        nodes = W;
+        room = R;
+        among = record { among = λ j h. absurd (omega arith) };
+        pairs = ap (λ (k : ℕ). pairs_in p.firsts p.seconds 0 k ++ nearest_pairs ltb (all - p.count) cost (take all w₀)) none ∙ ap (λ (k : ℕ). nearest_pairs ltb k cost (take all w₀)) e;
+      }
 
-  module _ (left count : ℕ) (w fs ss : List ℕ) (S : Writing cost all left count w₀ w fs ss) where
-    pub writing_round : (w' fs' ss' : List ℕ) → 2 < left → count < most_pairs → Round cost left count w w' fs fs' ss ss' → Writing cost all (left - 2) (count + 1) w₀ w' fs' ss'
-    writing_round w' fs' ss' h room R =
+  module _ (left : ℕ) (w : List ℕ) (p : PairList) (S : Writing cost all left w₀ w p) where
+    pub writing_round : (w' : List ℕ) (p' : PairList) → 2 < left → p.count < most_pairs → Round cost left w w' p p' → Writing cost all (left - 2) w₀ w' p'
+    writing_round w' p' h room R =
+        let count = p.count in
         let W = S.nodes in
         let at = found_places cost w left R.from R.to R.at W.long R.nearest (omega arith) in
         let more : all - count ≡ suc (all - (count + 1)) = omega (arith, S.sum) in
-        let p = pair (get_or w R.from 0) (get_or w R.to 0) in
+        let q = pair (get_or w R.from 0) (get_or w R.to 0) in
         let rest = nearest_pairs ltb (all - (count + 1)) cost (take (left - 2) w') in
-        let turned : nearest_pairs ltb (all - count) cost (take left w) ≡ p ∷ rest =
+        let turned : nearest_pairs ltb (all - count) cost (take left w) ≡ q ∷ rest =
         ap (λ (k : ℕ). nearest_pairs ltb k cost (take left w)) more
         ∙ round_pairs cost w left R.from R.to R.at W.long R.nearest h (all - (count + 1))
-        ∙ ap (λ (l : List ℕ). p ∷ nearest_pairs ltb (all - (count + 1)) cost (take (left - 2) l)) (sym R.rest) in
+        ∙ ap (λ (l : List ℕ). q ∷ nearest_pairs ltb (all - (count + 1)) cost (take (left - 2) l)) (sym R.rest) in
         let less : left - 1 - 1 ≡ left - 2 = omega arith in
-        record {
+        subst (λ (p' : PairList). Writing cost all (left - 2) w₀ w' p') (sym R.next)
+        (record {
           sum = omega (arith, S.sum);
           nodes = subst (λ (l : List ℕ). NodeList most_nodes most_nodes l (left - 2)) (sym R.rest)
               (subst (NodeList most_nodes most_nodes (without w left R.from R.to)) less
               (nodes_removed most_nodes (moved w left R.to) (left - 1) (nodes_removed most_nodes w left W R.to at.1) R.from (omega (arith, at.0, at.1))));
-          room = rw (R.first, R.second) (room_more fs ss S.room count (get_or w R.from 0) (get_or w R.to 0) room);
-          among = rw (R.first, R.second) (among_more fs ss count S.room room (get_or w R.from 0) (get_or w R.to 0) (W.nodes_in_known R.from (omega (arith, at.0, at.1))) (W.nodes_in_known R.to at.1) S.among);
+          room = room_more p.firsts p.seconds S.room count (get_or w R.from 0) (get_or w R.to 0) room;
+          among = among_more p.firsts p.seconds count S.room room (get_or w R.from 0) (get_or w R.to 0) (W.nodes_in_known R.from (omega (arith, at.0, at.1))) (W.nodes_in_known R.to at.1) S.among;
           pairs =
-              rw (R.first, R.second)
-              (ap (λ (qs : List Pair). qs ++ rest) (pairs_more fs ss S.room count (get_or w R.from 0) (get_or w R.to 0) room)
-              ∙ append_assoc (pairs_in fs ss 0 count) (p ∷ []) rest
-              ∙ ap (λ (qs : List Pair). pairs_in fs ss 0 count ++ qs) (sym turned) ∙ S.pairs);
-        }
+              ap (λ (qs : List Pair). qs ++ rest) (pairs_more p.firsts p.seconds S.room count (get_or w R.from 0) (get_or w R.to 0) room)
+              ∙ append_assoc (listed p) (q ∷ []) rest
+              ∙ ap (λ (qs : List Pair). listed p ++ qs) (sym turned) ∙ S.pairs;
+        })
 
-    pub writing_end : left ≤ 2 → pairs_in fs ss 0 count ≡ nearest_pairs ltb all cost (take all w₀)
+    pub writing_end : left ≤ 2 → listed p ≡ nearest_pairs ltb all cost (take all w₀)
     writing_end h =
-        sym (append-nil (pairs_in fs ss 0 count))
-        ∙ ap (λ (qs : List Pair). pairs_in fs ss 0 count ++ qs) (sym (round_end (all - count) cost w left h S.nodes.long))
+        sym (append-nil (listed p))
+        ∙ ap (λ (qs : List Pair). listed p ++ qs) (sym (round_end (all - p.count) cost w left h S.nodes.long))
         ∙ S.pairs
 
-    pub writing_paired : all ≤ most_nodes → Paired fs ss count
+    pub writing_paired : all ≤ most_nodes → Paired p
     writing_paired h = record { room = S.room; few = omega (arith, S.sum); among = S.among }

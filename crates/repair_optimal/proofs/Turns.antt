@@ -4,13 +4,13 @@ use native.Mathlib.Omega.{arith}
 use native.Mathlib.Numerals.{add-one}
 use mathlib.Core.Path.{◌≡◌, sym, ap, ◌∙◌}
 use mathlib.Core.List.{List, [], ◌∷◌, ◌++◌, map, append_assoc, append-nil}
-use lib.ListN.{get_or, set}
+use lib.ListN.{get_or}
 use lib.Count.{ones}
 use lib.Pow.{pow_mono}
 use lib.Ieee.{Float, nan}
 use Rattle.limits.specs.Limits.{most_pairs}
 use Rattle.repair_spec.specs.Pairing.{Pair, pair}
-use Rattle.repair_spec.specs.PairsIn.{pairs_in, PairRoom}
+use Rattle.repair_spec.specs.PairsIn.{PairList, pairs_in, listed, PairRoom, pushed}
 use Rattle.repair_spec.proofs.PairsIn.{pairs_more, room_more}
 use Rattle.repair_masks.specs.Masks.{Bit}
 use Rattle.repair_masks.proofs.Masks.{bit_power, lowest_bit, full_bit, bit_other, ones_without}
@@ -83,39 +83,43 @@ pair_out n m i j p q h f some e g k s w =
     rw (g, k, e) (omega arith, omega arith, needed_rest n m j some word s w)
 
 -- t pairs are read back, and those of the mask m are left
-pub record Reading (odd bs : List ℕ) (count mask t m : ℕ) (fs ss : List ℕ) : Type 0 where
-  pub room : PairRoom fs ss
-  pub pairs : pairs_in fs ss 0 t ++ map (pair_of (node_at odd)) (follow (count - t) (partner_in bs) m) ≡ map (pair_of (node_at odd)) (follow count (partner_in bs) mask)
+pub record Reading (odd bs : List ℕ) (count mask t m : ℕ) (p : PairList) : Type 0 where
+  pub room : PairRoom p.firsts p.seconds
+  pub read : p.count ≡ t
+  pub pairs : listed p ++ map (pair_of (node_at odd)) (follow (count - t) (partner_in bs) m) ≡ map (pair_of (node_at odd)) (follow count (partner_in bs) mask)
 
 module _ (odd bs : List ℕ) (count mask : ℕ) where
-  pub reading_start : (fs ss : List ℕ) → PairRoom fs ss → Reading odd bs count mask 0 mask fs ss
+  pub reading_start : (p : PairList) → p.count ≡ 0 → PairRoom p.firsts p.seconds → Reading odd bs count mask 0 mask p
   unfolding pairs_in
-  reading_start fs ss R = let k : count - 0 ≡ count = omega arith in record { room = R; pairs = rw k }
+  reading_start p none R =
+      let k : count - 0 ≡ count = omega arith in
+      let all = map (pair_of (node_at odd)) (follow count (partner_in bs) mask) in
+      record { room = R; read = none; pairs = rw k (ap (λ (t : ℕ). pairs_in p.firsts p.seconds 0 t ++ all) none) }
 
-  pub reading_turn : (t m i j p q : ℕ) (fs ss : List ℕ) → t < count → count ≤ most_pairs → i ≡ low m → j ≡ partner_in bs m → p ≡ 2 ^ i → q ≡ 2 ^ j
-      → Reading odd bs count mask t m fs ss → Reading odd bs count mask (t + 1) (m - p - q) (set fs t (node_at odd i)) (set ss t (node_at odd j))
+  pub reading_turn : (t m i j a b : ℕ) (p : PairList) → t < count → count ≤ most_pairs → i ≡ low m → j ≡ partner_in bs m → a ≡ 2 ^ i → b ≡ 2 ^ j
+      → Reading odd bs count mask t m p → Reading odd bs count mask (t + 1) (m - a - b) (pushed (node_at odd i) (node_at odd j) p)
   unfolding follow
-  reading_turn t m i j p q fs ss h few ei ej ep eq R =
+  reading_turn t m i j a b p h few ei ej ea eb R =
       let u = node_at odd i in
       let v = node_at odd j in
-      let rest = map (pair_of (node_at odd)) (follow (count - (t + 1)) (partner_in bs) (m - p - q)) in
+      let rest = map (pair_of (node_at odd)) (follow (count - (t + 1)) (partner_in bs) (m - a - b)) in
       let k : count - t ≡ suc (count - (t + 1)) = omega arith in
-      let turned : map (pair_of (node_at odd)) (follow (count - t) (partner_in bs) m) ≡ pair u v ∷ rest = rw (k, eq, ep, ej, ei) in
+      let turned : map (pair_of (node_at odd)) (follow (count - t) (partner_in bs) m) ≡ pair u v ∷ rest = rw (k, eb, ea, ej, ei) in
       record {
-        room = room_more fs ss R.room t u v (omega arith);
+        room = room_more p.firsts p.seconds R.room p.count u v (omega (arith, R.read));
+        read = omega (arith, R.read);
         pairs =
-            ap (λ (qs : List Pair). qs ++ rest) (pairs_more fs ss R.room t u v (omega arith))
-            ∙ append_assoc (pairs_in fs ss 0 t) (pair u v ∷ []) rest
-            ∙ ap (λ (qs : List Pair). pairs_in fs ss 0 t ++ qs) (sym turned) ∙ R.pairs;
+            ap (λ (qs : List Pair). qs ++ rest) (pairs_more p.firsts p.seconds R.room p.count u v (omega (arith, R.read)))
+            ∙ append_assoc (listed p) (pair u v ∷ []) rest
+            ∙ ap (λ (qs : List Pair). listed p ++ qs) (sym turned) ∙ R.pairs;
       }
 
-  pub reading_over : (t m : ℕ) (fs ss : List ℕ) → t ≡ count → Reading odd bs count mask t m fs ss
-      → pairs_in fs ss 0 count ≡ map (pair_of (node_at odd)) (follow count (partner_in bs) mask)
+  pub reading_over : (t m : ℕ) (p : PairList) → t ≡ count → Reading odd bs count mask t m p → listed p ≡ map (pair_of (node_at odd)) (follow count (partner_in bs) mask)
   unfolding follow
-  reading_over t m fs ss e R =
+  reading_over t m p e R =
       let k : count - t ≡ 0 = omega arith in
       let none : map (pair_of (node_at odd)) (follow (count - t) (partner_in bs) m) ≡ [] = rw k in
-      ap (pairs_in fs ss 0) (sym e) ∙ sym (append-nil (pairs_in fs ss 0 t)) ∙ ap (λ (qs : List Pair). pairs_in fs ss 0 t ++ qs) (sym none) ∙ R.pairs
+      sym (append-nil (listed p)) ∙ ap (λ (qs : List Pair). listed p ++ qs) (sym none) ∙ R.pairs
 
 -- ---- from a table that is filled
 

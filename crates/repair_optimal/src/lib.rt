@@ -4,7 +4,7 @@
 ghost use Rattle.std.specs.Prelude.{◌≡◌, map, ℕ, ◌+◌, ◌*◌, ◌^◌, ◌-◌, ◌%◌, ◌<◌, ◌≤◌, length};
 ghost use Rattle.std.specs.Int.Count.{ones};
 ghost use Rattle.limits.specs.Limits.{most_odd, most_pairs};
-ghost use Rattle.repair_spec.specs.PairsIn.{pairs_in, PairRoom};
+ghost use Rattle.repair_spec.specs.PairsIn.{listed, PairRoom};
 ghost use Rattle.repair_masks.specs.Places.{node_at, pair_of, optimal_places};
 ghost use Rattle.repair_masks.specs.Masks.{Bit};
 ghost use Rattle.repair_masks.specs.Table.{least, low, Needed};
@@ -13,7 +13,8 @@ ghost use Rattle.repair_masks.specs.Follow.{follow};
 ghost use Rattle.repair_table.specs.Tables.{costs, matrix, partner_in};
 ghost use Rattle.repair_optimal.specs.Partners.{Partnered};
 
-use limits::{MOST_NODES, MOST_PAIRS};
+use limits::MOST_NODES;
+use repair_spec::PairList;
 use repair_table::Least;
 
 // Each place from `start` on left out, with the one that `mask` is without.
@@ -23,11 +24,9 @@ fn leave_from(table: &[f64], n: usize, mask: usize, start: usize, b: Least) -> L
     ensures { least result.cost result.at ≡ leave_from (n - start) (costs table.now) mask start (least b.cost b.at) }
 {
     let mut best = b;
-    let mut v = start;
-    while v < n {
+    for v in start..n {
         let m = mask - repair_table::power(v);
         best = repair_table::take_lesser(best, table[m], m);
-        v += 1;
     }
     best
 }
@@ -44,19 +43,11 @@ fn left_out(table: &[f64], n: usize) -> usize
         at: first,
     };
     let mut best = leave_from(table, n, full - 1, 2, none);
-    let mut u = 1;
-    while u < n {
+    for u in 1..n {
         let mask = full - repair_table::power(u);
         best = leave_from(table, n, mask, u + 1, best);
-        u += 1;
     }
     best.at
-}
-
-fn wide(x: u8) -> usize
-    ensures { result ≡ x }
-{
-    x as usize
 }
 
 // The partner of the lowest place of m.
@@ -65,53 +56,46 @@ fn partner_of(partners: &[u8], n: usize, m: usize) -> usize
     requires partnered { Partnered n partners.now }
     ensures { (result ≡ partner_in partners.now m) × (result < n) × Bit result (m - 2 ^ low m) }
 {
-    wide(partners[m])
+    usize::from(partners[m])
 }
 
-// The pairs of the mask, `count` in number, read back from the partners and written as nodes.
+// The pairs of the mask, `count` in number, read back from the partners and written as nodes, into an empty list.
 fn read_pairs(
     partners: &[u8],
     odd: &[u16; MOST_NODES],
     n: usize,
     mask: usize,
     count: usize,
-    firsts: &mut [u16; MOST_PAIRS],
-    seconds: &mut [u16; MOST_PAIRS],
+    pairs: &mut PairList,
 )
     requires n_le_most_odd { (n ≤ most_odd) × (mask < 2 ^ n) × (2 ^ n ≤ length partners.now) × (count ≤ most_pairs) × (ones mask ≡ 2 * count) × Needed n mask }
-    requires partnered { Partnered n partners.now × PairRoom firsts.old seconds.old }
-    ensures { pairs_in firsts.new seconds.new 0 count ≡ map (pair_of (node_at odd.now)) (follow count (partner_in partners.now) mask) }
+    requires partnered { Partnered n partners.now × PairRoom pairs.old.firsts pairs.old.seconds × (pairs.old.count ≡ 0) }
+    ensures { listed pairs.new ≡ map (pair_of (node_at odd.now)) (follow count (partner_in partners.now) mask) }
 {
     let mut m = mask;
-    let mut t = 0;
-    while t < count {
+    for _ in 0..count {
         let i = repair_table::lowest(m, n);
         let j = partner_of(partners, n, m);
-        firsts[t] = odd[i];
-        seconds[t] = odd[j];
+        pairs.push(odd[i], odd[j]);
         m = m - repair_table::power(i) - repair_table::power(j);
-        t += 1;
     }
 }
 
-// Optimal's pairs of the first n nodes of `odd`, whose distances are in the table behind the room for 2^n
-// costs. The answer is the number of pairs, which stand in `firsts` and `seconds`. What the tables hold then is
-// left open: whoever lent them clears them once, at the end.
+// Optimal's pairs of the first n nodes of `odd`, whose distances are in the table behind the room for 2^n costs, in the list
+// afterwards, whatever it had before. What the tables hold then is left open: whoever lent them clears them once, at the end.
 pub fn optimal_pairs(
     table: &mut [f64],
     partners: &mut [u8],
     odd: &[u16; MOST_NODES],
     n: usize,
-    firsts: &mut [u16; MOST_PAIRS],
-    seconds: &mut [u16; MOST_PAIRS],
-) -> usize
-    requires le_n { (2 ≤ n) × (n ≤ most_odd) × (n % 2 ≡ 0) × PairRoom firsts.old seconds.old }
+    pairs: &mut PairList,
+)
+    requires le_n { (2 ≤ n) × (n ≤ most_odd) × (n % 2 ≡ 0) × PairRoom pairs.old.firsts pairs.old.seconds }
     requires n_in_bounds { (2 ^ n + n * n ≤ length table.old) × (2 ^ n ≤ length partners.old) }
-    ensures { pairs_in firsts.new seconds.new 0 result ≡ map (pair_of (node_at odd.now)) (optimal_places n (matrix n table.old)) }
+    ensures { listed pairs.new ≡ map (pair_of (node_at odd.now)) (optimal_places n (matrix n table.old)) }
 {
     repair_table::fill(table, partners, n);
     let mask = left_out(table, n);
-    let count = n / 2 - 1;
-    read_pairs(partners, odd, n, mask, count, firsts, seconds);
-    count
+    pairs.count = 0;
+    read_pairs(partners, odd, n, mask, n / 2 - 1, pairs);
 }

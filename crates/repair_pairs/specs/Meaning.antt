@@ -1,10 +1,10 @@
--- What the code's answer says, with the two arrays in which the pairs stand.
-use Rattle.std.specs.Prelude.{List, ℕ}
-use Rattle.repair_spec.specs.PairsIn.{pairs_in}
+-- What the code's answer says, with the pairs of its list.
+use Rattle.std.specs.Prelude.{List, ℕ, Result, Ok, Err}
+use Rattle.limits.specs.declared.Refusal.{Refusal}
+use Rattle.limits.specs.Refused.{number_of}
+use Rattle.repair_spec.specs.Pairing.{Pair}
 use Rattle.repair_pairs.specs.Pairs as found
-use Rattle.repair_pairs.specs.declared.Pairs.{Pairs}
-use Rattle.repair_pairs.specs.declared.Pairs.TheVariants.{Found, Refused}
 
-abbrev pub found_in : Pairs → List ℕ → List ℕ → found.Found
-found_in (Found odd count) firsts seconds = found.pairs odd (pairs_in firsts seconds 0 count)
-found_in (Refused k) firsts seconds = found.refusal k
+abbrev pub found_in : Result ℕ Refusal → List Pair → found.Found
+found_in (Ok odd) ps = found.pairs odd ps
+found_in (Err r) ps = found.refusal (number_of r)

@@ -1,4 +1,4 @@
--- The retraces of pairs that stand in two arrays, one after the other. Assumes nothing.
+-- The retraces of pairs that stand in two arrays, one after the other.
 use mathlib.Core.Path.{◌≡◌, refl, sym, ap, ◌∙◌}
 use mathlib.Core.List.{List, [], ◌∷◌}
 use Prim.Native.Nat.{ℕ, zero, suc, ◌+◌, ◌-◌, ◌≤◌, ◌<◌}
@@ -12,7 +12,8 @@ use Rattle.repair_spec.specs.Pairing.{Pair, pair}
 use Rattle.repair_spec.specs.PairsIn.{pairs_in}
 use Rattle.repair_spec.specs.Repair.{Repairing, apply_matching}
 use Rattle.repair_retrace.specs.Outcome.{RepairOutcome, outcome, so_far}
-use Rattle.repair_retrace.specs.declared.Applied.TheVariants.{Laid, Refused}
+use Rattle.std.specs.Prelude.{Ok, Err}
+use Rattle.repair_retrace.specs.declared.Laid.{Laid}
 use Rattle.repair_retrace.specs.Answer.{Answers}
 use Rattle.repair_retrace.proofs.Outcome.{outcome_none, others, outcome_first}
 
@@ -37,7 +38,7 @@ module _ (most number n : ℕ) (firsts seconds : List ℕ) (pairs : ℕ) (all : 
     pub same : outcome (apply_matching most number n (pairs_in firsts seconds i (pairs - i)) (so_far (edges_in m a) total)) ≡ outcome all
 
   module _ (a : Adjacency) (i m : ℕ) (total : Float) (Y : Applying a i m total) where
-    pub applying_end : (i < pairs → ⊥) → Answers n all (Laid total m) a
+    pub applying_end : (i < pairs → ⊥) → Answers n all (Ok (record { sum = total; edges = m })) a
     applying_end h =
         let none : pairs - i ≡ 0 = omega arith in
         record {
@@ -62,11 +63,11 @@ module _ (most number n : ℕ) (firsts seconds : List ℕ) (pairs : ℕ) (all : 
           ∙ sym (outcome_first most number n (pair from to) (pairs_in firsts seconds (i + 1) (pairs - (i + 1))) (so_far (edges_in m a) total))
           ∙ ap (λ (ps : List Pair). outcome (apply_matching most number n ps (so_far (edges_in m a) total))) (sym left) ∙ Y.same
 
-      pub applying_refused : (k : ℕ) → Answers n (apply_matching most number n (pair from to ∷ []) (so_far (edges_in m a) total)) (Refused k) a' → Answers n all (Refused k) a'
+      pub applying_refused : (k : ℕ) → Answers n (apply_matching most number n (pair from to ∷ []) (so_far (edges_in m a) total)) (Err k) a' → Answers n all (Err k) a'
       applying_refused k P = record { is = after _ P.is; held = tt }
 
-      pub applying_step : (x : Float) (m' : ℕ) → Answers n (apply_matching most number n (pair from to ∷ []) (so_far (edges_in m a) total)) (Laid x m') a' → Applying a' (i + 1) m' x
-      applying_step x m' P = record { most_pairs = omega arith; held = P.held; same = after _ P.is }
+      pub applying_step : (l : Laid) → Answers n (apply_matching most number n (pair from to ∷ []) (so_far (edges_in m a) total)) (Ok l) a' → Applying a' (i + 1) l.edges l.sum
+      applying_step l P = record { most_pairs = omega arith; held = P.held; same = after _ P.is }
 
 pub applying_begin : (most number n : ℕ) (firsts seconds : List ℕ) (pairs m : ℕ) (sum : Float) (a : Adjacency) → EdgesHeld n m a
     → Applying most number n firsts seconds pairs (apply_matching most number n (pairs_in firsts seconds 0 pairs) (so_far (edges_in m a) sum)) a 0 m sum

@@ -1,4 +1,4 @@
--- Laws of specs/Outcome: the outcome of a repair depends on its edges and its sum alone, and that of pairs goes pair by pair. Assumes nothing.
+-- Laws of specs/Outcome: the outcome of a repair depends on its edges and its sum alone, and that of pairs goes pair by pair.
 use mathlib.Core.Path.{◌≡◌, refl, sym, ap, ◌∙◌}
 use mathlib.Core.List.{List, [], ◌∷◌}
 use mathlib.Core.Bool.{Bool, true, false}

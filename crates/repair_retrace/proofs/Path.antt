@@ -1,4 +1,4 @@
--- The way back that code finds and keeps at the end of an array: the definition's `shortest_path`. Assumes nothing.
+-- The way back that code finds and keeps at the end of an array: the definition's `shortest_path`.
 use mathlib.Core.Path.{◌≡◌, sym, ap, subst, ◌∙◌}
 use mathlib.Core.Logic.{inl, inr}
 use mathlib.Core.List.{List, [], ◌∷◌}
@@ -23,7 +23,7 @@ use Rattle.repair_spec.proofs.Applied.{walk_inside}
 use Rattle.repair_early_exit.proofs.WayBack.{Serves}
 use Rattle.repair_early_exit.proofs.EarlyExit.{serves_exit}
 use Rattle.repair_search.specs.Search.{Found}
-use Rattle.repair_search.proofs.Search.{goal_same, same_or_far}
+use Rattle.repair_search.proofs.Searching.{goal_same, same_or_far}
 use Rattle.repair_copies.specs.Laying.{copies_from}
 
 -- The way back by the distances that are found up to the goal is the definition's.

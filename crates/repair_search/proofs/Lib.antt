@@ -4,4 +4,4 @@ pub mod Arcs
 pub mod OfferLaws
 pub mod Relaxing
 pub mod Touched
-pub mod Search
+pub mod Searching

@@ -1,4 +1,4 @@
--- Laws of specs/Touched: a node is listed once, when it gets its first distance, so the list never outgrows its room; resetting what is listed resets all. Assumes nothing.
+-- Laws of specs/Touched: a node is listed once, when it gets its first distance, so the list never outgrows its room; resetting what is listed resets all.
 use mathlib.Core.Path.{◌≡◌, refl, sym, ap, subst, ◌∙◌}
 use mathlib.Core.Logic.{◌⊎◌, inl, inr}
 use mathlib.Core.List.{List, [], ◌∷◌}
@@ -17,11 +17,16 @@ use Rattle.sums.specs.Key.{Nonneg, key}
 use Rattle.sums.proofs.KeyLaws.{key_top, lt_key, lt_true}
 use Rattle.sums.proofs.Sum.{inf_nonneg}
 use Rattle.lists.proofs.Elements.{get_d_same}
-use Rattle.repair_tournament.specs.Tree.{value, Tree, Stored}
+use Rattle.repair_tournament.specs.Tree.{value, no_values, Tree, Stored}
 use Rattle.repair_tournament.proofs.Tree.{tree_none}
 use Rattle.repair_spec.specs.Distance.{infinity, zero_length, distance_at}
+use Rattle.repair_search.specs.declared.Search.{Search}
 use Rattle.repair_search.specs.Touched.{reached, Listed, ListedWith, Touched, Unreached}
 use Rattle.lists.proofs.Elements.{get_d_inside}
+
+-- a search by its three arrays
+abbrev pub searched : List Float → List Float → List ℕ → Search
+searched ds t touched = record { dist = ds; tree = record { values = t }; touched = touched }
 
 -- ---- below infinity
 
@@ -167,7 +172,7 @@ pub record Clearing (n : ℕ) (touched : List ℕ) (count : ℕ) (j : ℕ) (ds t
   pub left : (v : ℕ) → (distance_at ds v ≡ infinity) ⊎ ((i : ℕ) × (j ≤ i) × (i < count) × (get_or touched i 0 ≡ v))
 
 module _ (n : ℕ) (few : n ≤ most_nodes) (touched : List ℕ) (count : ℕ) where
-  pub clearing_begin : (ds t : List Float) → Touched n ds t touched count → Clearing n touched count 0 ds t
+  pub clearing_begin : (ds t : List Float) → Touched n (searched ds t touched) count → Clearing n touched count 0 ds t
   clearing_begin ds t T = record {
     most = omega arith;
     long = T.long;
@@ -177,20 +182,20 @@ module _ (n : ℕ) (few : n ≤ most_nodes) (touched : List ℕ) (count : ℕ) w
   }
 
   module _ (j : ℕ) (ds t : List Float) (C : Clearing n touched count j ds t) where
-    pub clearing_step : j < count → (far : Float) → far ≡ infinity → (v : ℕ) → v ≡ get_or touched j 0 → v < n → (t' : List Float) → Stored n v far t t'
-        → Clearing n touched count (j + 1) (set ds v far) t'
-    clearing_step l far is_far v is is_node t' S = record {
+    pub clearing_step : j < count → (v : ℕ) → v ≡ get_or touched j 0 → v < n → (t' : List Float) → Stored n v infinity t t'
+        → Clearing n touched count (j + 1) (set ds v infinity) t'
+    clearing_step l v is is_node t' S = record {
       most = omega arith;
-      long = length-set ds v far ∙ C.long;
+      long = length-set ds v infinity ∙ C.long;
       tree = S.tree;
       values = λ w h e. elim (same_or_not w v) [
-        | inl q ↦ ap (λ (x : ℕ). value n t' x) q ∙ S.new ∙ is_far
-        | inr o ↦ S.others w o ∙ C.values w h (sym (get_or-set_other ds v w far infinity o) ∙ e)
+        | inl q ↦ ap (λ (x : ℕ). value n t' x) q ∙ S.new
+        | inr o ↦ S.others w o ∙ C.values w h (sym (get_or-set_other ds v w infinity infinity o) ∙ e)
       ];
       left = λ w. elim (same_or_not w v) [
-        | inl q ↦ inl (ap (λ (x : ℕ). distance_at (set ds v far) x) q ∙ get_or-set_same ds v far infinity (omega (arith, C.long)) ∙ is_far)
+        | inl q ↦ inl (ap (λ (x : ℕ). distance_at (set ds v infinity) x) q ∙ get_or-set_same ds v infinity infinity (omega (arith, C.long)))
         | inr o ↦ elim (C.left w) [
-          | inl e ↦ inl (get_or-set_other ds v w far infinity o ∙ e)
+          | inl e ↦ inl (get_or-set_other ds v w infinity infinity o ∙ e)
           | inr q ↦ elim (same_or_not q.0 j) [
             | inl e ↦ absurd (o (sym q.3 ∙ ap (λ (i : ℕ). get_or touched i 0) e ∙ sym is))
             | inr p ↦ inr (q.0, behind q.0 q.1 p, q.2, q.3)
@@ -202,7 +207,7 @@ module _ (n : ℕ) (few : n ≤ most_nodes) (touched : List ℕ) (count : ℕ) w
         behind : (i : ℕ) → j ≤ i → (i ≡ j → ⊥) → j + 1 ≤ i
         behind i h p = elim (dec_le i j) [ yes b ↦ absurd (p (le_antisymm b h)) | no b ↦ omega arith ]
 
-    pub clearing_end : (j < count → ⊥) → length touched ≡ most_nodes → Unreached n ds t touched
+    pub clearing_end : (j < count → ⊥) → length touched ≡ most_nodes → Unreached n (searched ds t touched)
     clearing_end h room =
         let all : (v : ℕ) → distance_at ds v ≡ infinity = λ v. elim (C.left v) [ inl e ↦ e | inr q ↦ absurd (h (le_trans (suc_mono j q.0 q.1) q.2)) ] in
         record {
@@ -216,7 +221,5 @@ module _ (n : ℕ) (few : n ≤ most_nodes) (touched : List ℕ) (count : ℕ) w
         suc_mono a b h = omega arith
 
 -- arrays that were never searched in
-pub unreached_new : (n : ℕ) → n ≤ most_nodes → (far : Float) → far ≡ infinity → Unreached n (replicate most_nodes far) (replicate (2 * most_nodes) far) (replicate most_nodes 0)
-unreached_new n few far e =
-    subst (λ (x : Float). Unreached n (replicate most_nodes x) (replicate (2 * most_nodes) x) (replicate most_nodes 0)) (sym e)
-    (record { none = refl; tree = tree_none n few; values = λ w l. get_or-replicate (2 * most_nodes) (n + w) infinity nan (omega arith); room = length-replicate {A = ℕ} most_nodes 0 })
+pub unreached_new : (n : ℕ) → n ≤ most_nodes → Unreached n (searched (replicate most_nodes infinity) no_values (replicate most_nodes 0))
+unreached_new n few = record { none = refl; tree = tree_none n few; values = λ w l. get_or-replicate (2 * most_nodes) (n + w) infinity nan (omega arith); room = length-replicate {A = ℕ} most_nodes 0 }

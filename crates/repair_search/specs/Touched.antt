@@ -4,6 +4,7 @@ use Rattle.std.specs.Float.Ieee.{lt}
 use Rattle.limits.specs.Limits.{most_nodes}
 use Rattle.repair_tournament.specs.Tree.{value, Tree}
 use Rattle.repair_spec.specs.Distance.{infinity, distance_at}
+use Rattle.repair_search.specs.declared.Search.{Search}
 
 -- how many of the distances are less than infinity
 unfoldable pub reached : List Float → ℕ
@@ -22,15 +23,15 @@ abbrev pub ListedWith : ℕ → ℕ → List Float → List ℕ → ℕ → Type
 ListedWith n v ds touched count = (c : Float) → lt c infinity ≡ true → Listed n (set ds v c) touched count
 
 -- what a search leaves: a node that was not reached has no value in the tournament either
-pub record Touched (n : ℕ) (ds t : List Float) (touched : List ℕ) (count : ℕ) : Type 0 where
-  pub listed : Listed n ds touched count
-  pub long : length ds ≡ most_nodes
-  pub tree : Tree n t
-  pub values : (w : ℕ) → w < n → distance_at ds w ≡ infinity → value n t w ≡ infinity
+pub record Touched (n : ℕ) (s : Search) (count : ℕ) : Type 0 where
+  pub listed : Listed n s.dist s.touched count
+  pub long : length s.dist ≡ most_nodes
+  pub tree : Tree n s.tree.values
+  pub values : (w : ℕ) → w < n → distance_at s.dist w ≡ infinity → value n s.tree.values w ≡ infinity
 
 -- what a search asks for, and what clearing leaves
-pub record Unreached (n : ℕ) (ds t : List Float) (touched : List ℕ) : Type 0 where
-  pub none : ds ≡ replicate most_nodes infinity
-  pub tree : Tree n t
-  pub values : (w : ℕ) → w < n → value n t w ≡ infinity
-  pub room : length touched ≡ most_nodes
+pub record Unreached (n : ℕ) (s : Search) : Type 0 where
+  pub none : s.dist ≡ replicate most_nodes infinity
+  pub tree : Tree n s.tree.values
+  pub values : (w : ℕ) → w < n → value n s.tree.values w ≡ infinity
+  pub room : length s.touched ≡ most_nodes

@@ -4,12 +4,11 @@
 // is not done, and infinity for every other.
 #![tactic(auto)]
 
-ghost use Rattle.std.specs.Prelude.{◌≡◌, ◌<◌, ◌≤◌, length};
+ghost use Rattle.std.specs.Prelude.{◌≡◌, ℕ, ◌<◌, ◌≤◌, length};
 ghost use Rattle.std.specs.Float.{binary64};
 ghost use Rattle.limits.specs.Limits.{most_nodes};
 ghost use Rattle.sums.specs.Key.{Nonneg};
 ghost use Rattle.graph_spec.specs.Graph.{edges_at};
-ghost use Rattle.graph_adjacency.specs.Lists.{adjacency};
 ghost use Rattle.graph_arrays.specs.Arrays.{edges_in, EdgesHeld};
 ghost use Rattle.repair_spec.specs.Distance.{distance_at};
 ghost use Rattle.repair_search.specs.Offer.{Held, Offered};
@@ -17,7 +16,18 @@ ghost use Rattle.repair_search.specs.Relaxing.{Relaxed};
 ghost use Rattle.repair_search.specs.Touched.{Listed, ListedWith, Touched, Unreached};
 ghost use Rattle.repair_search.specs.Search.{Found};
 
-use limits::{ARC_ROOM, EDGE_ROOM, MOST_NODES};
+use graph_adjacency::{Adjacency, edge_number};
+use limits::MOST_NODES;
+use repair_tournament::Tournament;
+
+// The distances so far, infinity where none is known; the nodes of which one is known that are not done; and a list of all of
+// which one is known.
+#[derive(Clone, Copy)]
+pub struct Search {
+    pub dist: [f64; MOST_NODES],
+    pub tree: Tournament,
+    pub touched: [u16; MOST_NODES],
+}
 
 // Lists v, of which a distance is known now, where none was known before; the answer is how many nodes are listed.
 pub fn touch(
@@ -30,164 +40,144 @@ pub fn touch(
     requires { (n ≤ most_nodes) × (v < n) × (length dist.now ≡ most_nodes) × Listed n dist.now touched.old count }
     ensures { ListedWith n v dist.now touched.new result }
 {
-    if dist[v] < repair_tournament::infinity() {
+    if dist[v] < f64::INFINITY {
         return count;
     }
     touched[count] = v as u16;
     count + 1
 }
 
-// The way to v that costs `cost`, where that is less.
-fn offer(
-    dist: &mut [f64; MOST_NODES],
-    tree: &mut [f64; 2 * MOST_NODES],
-    touched: &mut [u16; MOST_NODES],
-    n: usize,
-    v: usize,
-    cost: f64,
-    count: usize,
-) -> usize
-    requires n_le_most_nodes { (n ≤ most_nodes) × (v < n) × Held n dist.old tree.old × Nonneg binary64 cost }
-    requires listed { Listed n dist.old touched.old count }
-    ensures offered { Offered n v cost dist.old tree.old dist.new tree.new }
-    ensures listed_2 { Listed n dist.new touched.new result }
-{
-    if cost < dist[v] {
-        let more = touch(dist, touched, n, v, count);
-        dist[v] = cost;
-        repair_tournament::store(tree, n, v, cost);
-        return more;
+impl Search {
+    // No node is reached yet. The arrays are filled where they stand: made apart they would be copied.
+    pub fn new() -> Self
+        ensures { (n : ℕ) → n ≤ most_nodes → Unreached n result }
+    {
+        let mut search = Search {
+            dist: [0.0; MOST_NODES],
+            tree: Tournament {
+                values: [0.0; 2 * MOST_NODES],
+            },
+            touched: [0; MOST_NODES],
+        };
+        search.dist.fill(f64::INFINITY);
+        search.tree.clear();
+        search
     }
-    count
-}
 
-// Looks along the edges of u, which is at the distance d.
-fn relax(
-    ends: &[u16; ARC_ROOM],
-    weights: &[f64; EDGE_ROOM],
-    next: &[u16; ARC_ROOM],
-    heads: &[u16; 2 * MOST_NODES],
-    n: usize,
-    m: usize,
-    dist: &mut [f64; MOST_NODES],
-    tree: &mut [f64; 2 * MOST_NODES],
-    touched: &mut [u16; MOST_NODES],
-    u: usize,
-    d: f64,
-    count: usize,
-) -> usize
-    requires u_lt_n { (u < n) × Nonneg binary64 d × Held n dist.old tree.old × Listed n dist.old touched.old count }
-    requires edges_held { EdgesHeld n m (adjacency ends.now weights.now next.now heads.now) }
-    ensures relaxed { Relaxed n (edges_at (edges_in m (adjacency ends.now weights.now next.now heads.now)) u) d dist.old tree.old dist.new tree.new }
-    ensures listed { Listed n dist.new touched.new result }
-{
-    let mut listed = count;
-    let mut k = graph_adjacency::first_arc(heads, u);
-    while k != 0 {
-        let e = graph_adjacency::edge_number(k);
-        let cost = d + weights[e];
-        let v = widen::wide(ends[k - 1]);
-        listed = offer(dist, tree, touched, n, v, cost, listed);
-        k = graph_adjacency::next_arc(next, heads, u, k);
-    }
-    listed
-}
-
-// The distance of the goal; infinity where it is no node.
-fn distance_of(dist: &[f64; MOST_NODES], goal: usize) -> f64
-    requires { length dist.now ≡ most_nodes }
-    ensures { result ≡ distance_at dist.now goal }
-{
-    if goal < MOST_NODES {
-        return dist[goal];
-    }
-    repair_tournament::infinity()
-}
-
-// The node that was listed last; s where none is.
-fn last_listed(
-    dist: &[f64; MOST_NODES],
-    touched: &[u16; MOST_NODES],
-    n: usize,
-    count: usize,
-    s: usize,
-) -> usize
-    requires { (s < n) × (length dist.now ≡ most_nodes) × Listed n dist.now touched.now count }
-    ensures { result < n }
-{
-    if count == 0 {
-        return s;
-    }
-    widen::wide(touched[count - 1])
-}
-
-// The least distances from s to each of n nodes, up to that of the goal: one that is lower than the goal's or
-// equal to it is the least, and no node with a higher one is nearer than the goal. With a goal that is no
-// node, as MOST_NODES, all are least. The answer is how many nodes were reached, which are listed in `touched`.
-// `Unreached`: every distance is infinity, in the tournament too, so that no node is reached yet.
-// `Found`, by `UpTo`: a distance within the goal's is the least; to a node beyond it no way costs less than the goal's.
-// `Touched`, by `Listed`: the first r of `touched` are nodes, every node with a distance among them, and none of the
-// others has a value in the tournament.
-// Which distance a node beyond the goal has, which value a reached node has in the tournament, the order of the nodes in
-// `touched` and what stands behind them is left open.
-pub fn search_from(
-    ends: &[u16; ARC_ROOM],
-    weights: &[f64; EDGE_ROOM],
-    next: &[u16; ARC_ROOM],
-    heads: &[u16; 2 * MOST_NODES],
-    n: usize,
-    m: usize,
-    dist: &mut [f64; MOST_NODES],
-    tree: &mut [f64; 2 * MOST_NODES],
-    touched: &mut [u16; MOST_NODES],
-    s: usize,
-    goal: usize,
-) -> usize
-    requires s_lt_n { (s < n) × Unreached n dist.old tree.old touched.old }
-    requires edges_held { EdgesHeld n m (adjacency ends.now weights.now next.now heads.now) }
-    ensures distances { Found (edges_in m (adjacency ends.now weights.now next.now heads.now)) s goal dist.new }
-    ensures reached { Touched n dist.new tree.new touched.new result }
-{
-    let infinity = repair_tournament::infinity();
-    let mut count = touch(dist, touched, n, s, 0);
-    dist[s] = 0.0;
-    repair_tournament::store(tree, n, s, 0.0);
-    let mut left: usize = MOST_NODES;
-    while 0 < left {
-        let d = tree[1];
-        let limit = distance_of(dist, goal);
-        let nearer = d < limit;
-        if !nearer {
-            break;
+    // The way to v that costs `cost`, where that is less.
+    fn offer(&mut self, n: usize, v: usize, cost: f64, count: usize) -> usize
+        requires n_le_most_nodes { (n ≤ most_nodes) × (v < n) × Held n self.old.dist self.old.tree.values × Nonneg binary64 cost }
+        requires listed { Listed n self.old.dist self.old.touched count }
+        ensures offered { Offered n v cost self.old.dist self.old.tree.values self.new.dist self.new.tree.values }
+        ensures listed_2 { Listed n self.new.dist self.new.touched result }
+    {
+        if cost < self.dist[v] {
+            let more = touch(&self.dist, &mut self.touched, n, v, count);
+            self.dist[v] = cost;
+            self.tree.store(n, v, cost);
+            return more;
         }
-        let last = last_listed(dist, touched, n, count, s);
-        let u = repair_tournament::least_at(tree, n, last);
-        count = relax(
-            ends, weights, next, heads, n, m, dist, tree, touched, u, d, count,
-        );
-        repair_tournament::store(tree, n, u, infinity);
-        left -= 1;
+        count
     }
-    count
-}
 
-// Clears what a search changed: no node is reached, as before it.
-pub fn clear(
-    dist: &mut [f64; MOST_NODES],
-    tree: &mut [f64; 2 * MOST_NODES],
-    touched: &[u16; MOST_NODES],
-    n: usize,
-    count: usize,
-)
-    requires { (n ≤ most_nodes) × Touched n dist.old tree.old touched.now count }
-    ensures { Unreached n dist.new tree.new touched.now }
-{
-    let infinity = repair_tournament::infinity();
-    let mut j: usize = 0;
-    while j < count {
-        let v = widen::wide(touched[j]);
-        dist[v] = infinity;
-        repair_tournament::store(tree, n, v, infinity);
-        j += 1;
+    // Looks along the edges of u, which is at the distance d.
+    fn relax(
+        &mut self,
+        edges: &Adjacency,
+        n: usize,
+        m: usize,
+        u: usize,
+        d: f64,
+        count: usize,
+    ) -> usize
+        requires u_lt_n { (u < n) × Nonneg binary64 d × Held n self.old.dist self.old.tree.values × Listed n self.old.dist self.old.touched count }
+        requires edges_held { EdgesHeld n m edges.now }
+        ensures relaxed { Relaxed n (edges_at (edges_in m edges.now) u) d self.old.dist self.old.tree.values self.new.dist self.new.tree.values }
+        ensures listed { Listed n self.new.dist self.new.touched result }
+    {
+        let mut listed = count;
+        let mut k = edges.first_arc(u);
+        while k != 0 {
+            let cost = d + edges.weights[edge_number(k)];
+            let v = usize::from(edges.ends[k - 1]);
+            listed = self.offer(n, v, cost, listed);
+            k = edges.next_arc(u, k);
+        }
+        listed
+    }
+
+    // The distance of the goal; infinity where it is no node.
+    fn distance_of(&self, goal: usize) -> f64
+        requires { length self.now.dist ≡ most_nodes }
+        ensures { result ≡ distance_at self.now.dist goal }
+    {
+        if goal < MOST_NODES {
+            return self.dist[goal];
+        }
+        f64::INFINITY
+    }
+
+    // The node that was listed last; s where none is.
+    fn last_listed(&self, n: usize, count: usize, s: usize) -> usize
+        requires { (s < n) × (length self.now.dist ≡ most_nodes) × Listed n self.now.dist self.now.touched count }
+        ensures { result < n }
+    {
+        if count == 0 {
+            return s;
+        }
+        usize::from(self.touched[count - 1])
+    }
+
+    // The least distances from s to each of n nodes, up to that of the goal: one that is lower than the goal's or
+    // equal to it is the least, and no node with a higher one is nearer than the goal. With a goal that is no
+    // node, as MOST_NODES, all are least. The answer is how many nodes were reached, which are listed in `touched`.
+    // `Unreached`: every distance is infinity, in the tournament too, so that no node is reached yet.
+    // `Found`, by `UpTo`: a distance within the goal's is the least; to a node beyond it no way costs less than the goal's.
+    // `Touched`, by `Listed`: the first r of `touched` are nodes, every node with a distance among them, and none of the
+    // others has a value in the tournament.
+    // Which distance a node beyond the goal has, which value a reached node has in the tournament, the order of the nodes in
+    // `touched` and what stands behind them is left open.
+    // The goal is a plain number and no Option, since the distance of a number that is no node is infinity anyway (`distance_at`).
+    pub fn search_from(
+        &mut self,
+        edges: &Adjacency,
+        n: usize,
+        m: usize,
+        s: usize,
+        goal: usize,
+    ) -> usize
+        requires s_lt_n { (s < n) × Unreached n self.old }
+        requires edges_held { EdgesHeld n m edges.now }
+        ensures distances { Found (edges_in m edges.now) s goal self.new.dist }
+        ensures reached { Touched n self.new result }
+    {
+        let mut count = touch(&self.dist, &mut self.touched, n, s, 0);
+        self.dist[s] = 0.0;
+        self.tree.store(n, s, 0.0);
+        for round in 0..MOST_NODES {
+            let d = self.tree.values[1];
+            let limit = self.distance_of(goal);
+            let nearer = d < limit;
+            if !nearer {
+                break;
+            }
+            let last = self.last_listed(n, count, s);
+            let u = self.tree.least_at(n, last);
+            count = self.relax(edges, n, m, u, d, count);
+            self.tree.store(n, u, f64::INFINITY);
+        }
+        count
+    }
+
+    // Clears what a search changed: no node is reached, as before it.
+    pub fn clear(&mut self, n: usize, count: usize)
+        requires { (n ≤ most_nodes) × Touched n self.old count }
+        ensures { Unreached n self.new }
+    {
+        for j in 0..count {
+            let v = usize::from(self.touched[j]);
+            self.dist[v] = f64::INFINITY;
+            self.tree.store(n, v, f64::INFINITY);
+        }
     }
 }

@@ -1,4 +1,4 @@
--- One offer, and the loop along the arcs of the node u, which is at the distance d. Assumes nothing.
+-- One offer, and the loop along the arcs of the node u, which is at the distance d.
 use mathlib.Core.Path.{◌≡◌, sym, ap, subst, subst₂, ◌∙◌}
 use mathlib.Core.List.{List}
 use mathlib.Core.Bool.{true, false}

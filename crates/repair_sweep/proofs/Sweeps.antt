@@ -1,4 +1,4 @@
--- Laws of specs/Sweeps: why distances that sweeps have settled are the least. Assumes nothing.
+-- Laws of specs/Sweeps: why distances that sweeps have settled are the least.
 use mathlib.Core.Path.{◌≡◌, refl, sym, ap, subst, ◌∙◌}
 use mathlib.Core.Logic.{◌⊎◌, inl, inr}
 use mathlib.Core.List.{List}
@@ -30,12 +30,17 @@ use Rattle.repair_search.specs.Touched.{Listed}
 use Rattle.repair_search.specs.Relaxing.{relax_arcs}
 use Rattle.repair_search.specs.Search.{Found}
 use Rattle.repair_search.proofs.Arcs.{relaxed}
-use Rattle.repair_search.proofs.Search.{start_nonneg}
+use Rattle.repair_search.proofs.Searching.{start_nonneg}
+use Rattle.repair_sweep.specs.declared.Sweep.{Sweep}
 use Rattle.repair_sweep.specs.Sweeps.{Reached, Looked, Sweeping, GoesOn, Settled, Unswept}
+
+-- sweeps by their three arrays
+abbrev pub swept : List Float → List Float → List ℕ → Sweep
+swept ds done touched = record { dist = ds; done = done; touched = touched }
 
 -- ---- before the first sweep
 
-module _ (s : ℕ) (is_node : s < most_nodes) (ds done : List Float) (touched : List ℕ) (N : Unswept ds done touched) where
+module _ (s : ℕ) (is_node : s < most_nodes) (ds done : List Float) (touched : List ℕ) (N : Unswept (swept ds done touched)) where
   pub unswept_long : length ds ≡ most_nodes
   unswept_long = ap length N.none ∙ length-replicate most_nodes infinity
 
@@ -45,7 +50,7 @@ module _ (s : ℕ) (is_node : s < most_nodes) (ds done : List Float) (touched : 
   begun_nonneg : AllNonneg (set ds s zero_length)
   begun_nonneg = subst (λ (x : List Float). AllNonneg (set x s zero_length)) (sym N.none) (start_nonneg most_nodes s)
 
-  pub looked_begin : (n : ℕ) (touched' : List ℕ) (count : ℕ) → Listed n (set ds s zero_length) touched' count → Looked n (set ds s zero_length) done touched' count
+  pub looked_begin : (n : ℕ) (touched' : List ℕ) (count : ℕ) → Listed n (set ds s zero_length) touched' count → Looked n (swept (set ds s zero_length) done touched') count
   looked_begin n touched' count L = record {
     reached = record { long = length-set ds s zero_length ∙ unswept_long; nonneg = begun_nonneg; listed = L };
     long = ap length N.never ∙ length-replicate most_nodes infinity;
@@ -66,7 +71,7 @@ module _ (s : ℕ) (is_node : s < most_nodes) (ds done : List Float) (touched : 
 
 -- ---- a visit of the node u, which has come nearer
 
-module _ (n m : ℕ) (a : Adjacency) (H : EdgesHeld n m a) (ds done : List Float) (touched : List ℕ) (count : ℕ) (K : Looked n ds done touched count) (u : ℕ) (is_node : u < n) where
+module _ (n m : ℕ) (a : Adjacency) (H : EdgesHeld n m a) (ds done : List Float) (touched : List ℕ) (count : ℕ) (K : Looked n (swept ds done touched) count) (u : ℕ) (is_node : u < n) where
   abbrev es : List Edge
   es = edges_in m a
 
@@ -88,7 +93,7 @@ module _ (n m : ℕ) (a : Adjacency) (H : EdgesHeld n m a) (ds done : List Float
       improved : Improved (Next u d es) ds ds'
       improved = subst (Improved (Next u d es) ds) (sym R) (relaxed d visit_nonneg es H.searchable.weights u ds K.reached.nonneg)
 
-      pub visit_looked : (touched' : List ℕ) (count' : ℕ) → Reached n ds' touched' count' → Looked n ds' (set done u d) touched' count'
+      pub visit_looked : (touched' : List ℕ) (count' : ℕ) → Reached n ds' touched' count' → Looked n (swept ds' (set done u d) touched') count'
       visit_looked touched' count' Q = record {
         reached = Q;
         long = length-set done u d ∙ K.long;
@@ -107,8 +112,8 @@ module _ (n m : ℕ) (a : Adjacency) (H : EdgesHeld n m a) (ds done : List Float
             (lt_true d (distance_at done u) visit_nonneg (K.nonneg u) (ap (lt d) (get_d_inside done u infinity nan (omega (arith, in_room, K.long))) ∙ near))
             (key_top binary64 (distance_at done u) (K.nonneg u))
 
-        pub visit_goes_on : GoesOn es ds done ds' (set done u d)
-        visit_goes_on s S = record {
+        pub visit_goes_on : (touched' : List ℕ) → GoesOn es (swept ds done touched) (swept ds' (set done u d) touched')
+        visit_goes_on touched' s S = record {
           source = elim (improved.change s) [
             | inl e ↦ e ∙ S.source
             | inr q ↦ absurd (not-suc-le-zero (rw (S.source, zero_key binary64) at q.1))
@@ -128,7 +133,7 @@ module _ (n m : ℕ) (a : Adjacency) (H : EdgesHeld n m a) (ds done : List Float
 
 -- ---- the end: what is settled is the least
 
-module _ (es : List Edge) (weights : Weights es) (s : ℕ) (ds done : List Float) (nonneg : AllNonneg done) (S : Sweeping es s ds done) (E : Settled ds done) where
+module _ (es : List Edge) (weights : Weights es) (s : ℕ) (ds done : List Float) (nonneg : AllNonneg done) (S : Sweeping es s ds done) (E : (v : ℕ) → key_at done v ≤ key_at ds v) where
   -- no way costs less, since each of its edges was looked along from a node no farther than the way is there
   no_way_below : {v : ℕ} {c : Float} → Way es s v c → key_at ds v ≤ key binary64 c
   no_way_below here = le_of_eq (ap (key binary64) S.source)
@@ -139,7 +144,7 @@ module _ (es : List Edge) (weights : Weights es) (s : ℕ) (ds done : List Float
   settled_least : (v : ℕ) → Least es s v (distance_at ds v)
   settled_least v = record { below = λ c w. no_way_below w; reached = S.ways v }
 
-pub settled_found : (n m : ℕ) (a : Adjacency) → EdgesHeld n m a → (s : ℕ) (ds done : List Float) (touched : List ℕ) (count : ℕ) → Looked n ds done touched count → Sweeping (edges_in m a) s ds done → Settled ds done
+pub settled_found : (n m : ℕ) (a : Adjacency) → EdgesHeld n m a → (s : ℕ) (ds done : List Float) (touched : List ℕ) (count : ℕ) → Looked n (swept ds done touched) count → Sweeping (edges_in m a) s ds done → Settled (swept ds done touched)
     → (goal : ℕ) → Found (edges_in m a) s goal ds
 settled_found n m a H s ds done touched count K S E goal =
     let least : (v : ℕ) → Least (edges_in m a) s v (distance_at ds v) = settled_least (edges_in m a) H.searchable.weights s ds done K.nonneg S E in
@@ -164,7 +169,7 @@ seen_turn touched ds done j u S is h i l = elim (ℕ_discrete i j) [
   | no d ↦ S i (omega arith)
 ]
 
-pub seen_all : (n : ℕ) → n ≤ most_nodes → (ds done : List Float) (touched : List ℕ) (count : ℕ) → Looked n ds done touched count → Seen touched ds done count → Settled ds done
+pub seen_all : (n : ℕ) → n ≤ most_nodes → (ds done : List Float) (touched : List ℕ) (count : ℕ) → Looked n (swept ds done touched) count → Seen touched ds done count → Settled (swept ds done touched)
 seen_all n few ds done touched count K S v = elim (K.reached.listed.covers v) [
   | inl far ↦ rw far (key_top binary64 (distance_at done v) (K.nonneg v))
   | inr q ↦ listed q.0 q.1 q.2
@@ -188,7 +193,7 @@ pub record Clearing (touched : List ℕ) (count j : ℕ) (ds done : List Float) 
   pub lower : (v : ℕ) → key_at ds v ≤ key_at done v
   pub left : (v : ℕ) → (distance_at ds v ≡ infinity) ⊎ ((i : ℕ) × (j ≤ i) × (i < count) × (get_or touched i 0 ≡ v))
 
-pub clearing_begin : (n : ℕ) (touched : List ℕ) (count : ℕ) (ds done : List Float) → Looked n ds done touched count → Clearing touched count 0 ds done
+pub clearing_begin : (n : ℕ) (touched : List ℕ) (count : ℕ) (ds done : List Float) → Looked n (swept ds done touched) count → Clearing touched count 0 ds done
 clearing_begin n touched count ds done K = record {
   most = omega arith;
   long = K.reached.long;
@@ -199,20 +204,20 @@ clearing_begin n touched count ds done K = record {
 }
 
 module _ (touched : List ℕ) (count j : ℕ) (ds done : List Float) (C : Clearing touched count j ds done) where
-  pub clearing_step : j < count → (far : Float) → far ≡ infinity → (v : ℕ) → v ≡ get_or touched j 0 → v < most_nodes → Clearing touched count (j + 1) (set ds v far) (set done v far)
-  clearing_step l far is_far v is is_node = record {
+  pub clearing_step : j < count → (v : ℕ) → v ≡ get_or touched j 0 → v < most_nodes → Clearing touched count (j + 1) (set ds v infinity) (set done v infinity)
+  clearing_step l v is is_node = record {
     most = omega arith;
-    long = length-set ds v far ∙ C.long;
-    looked_long = length-set done v far ∙ C.looked_long;
-    nonneg = λ w. elim (set_cases done v far infinity w) [ inl q ↦ rw (q.1, is_far) (inf_nonneg binary64) | inr q ↦ rw q (C.nonneg w) ];
+    long = length-set ds v infinity ∙ C.long;
+    looked_long = length-set done v infinity ∙ C.looked_long;
+    nonneg = λ w. elim (set_cases done v infinity infinity w) [ inl q ↦ rw q.1 (inf_nonneg binary64) | inr q ↦ rw q (C.nonneg w) ];
     lower = λ w. elim (ℕ_discrete w v) [
-      | yes e ↦ le_of_eq (ap (key binary64) (ap (distance_at (set ds v far)) e ∙ new ds C.long ∙ sym (ap (distance_at (set done v far)) e ∙ new done C.looked_long)))
-      | no o ↦ rw (get_or-set_other ds v w far infinity o, get_or-set_other done v w far infinity o) (C.lower w)
+      | yes e ↦ le_of_eq (ap (key binary64) (ap (distance_at (set ds v infinity)) e ∙ new ds C.long ∙ sym (ap (distance_at (set done v infinity)) e ∙ new done C.looked_long)))
+      | no o ↦ rw (get_or-set_other ds v w infinity infinity o, get_or-set_other done v w infinity infinity o) (C.lower w)
     ];
     left = λ w. elim (ℕ_discrete w v) [
-      | yes e ↦ inl (ap (distance_at (set ds v far)) e ∙ new ds C.long)
+      | yes e ↦ inl (ap (distance_at (set ds v infinity)) e ∙ new ds C.long)
       | no o ↦ elim (C.left w) [
-        | inl e ↦ inl (get_or-set_other ds v w far infinity o ∙ e)
+        | inl e ↦ inl (get_or-set_other ds v w infinity infinity o ∙ e)
         | inr q ↦ elim (ℕ_discrete q.0 j) [
           | yes e ↦ absurd (o (sym q.3 ∙ ap (λ (i : ℕ). get_or touched i 0) e ∙ sym is))
           | no p ↦ inr (q.0, behind q.0 q.1 p, q.2, q.3)
@@ -221,13 +226,13 @@ module _ (touched : List ℕ) (count j : ℕ) (ds done : List Float) (C : Cleari
     ];
   }
     where
-      new : (xs : List Float) → length xs ≡ most_nodes → distance_at (set xs v far) v ≡ infinity
-      new xs h = get_or-set_same xs v far infinity (omega arith) ∙ is_far
+      new : (xs : List Float) → length xs ≡ most_nodes → distance_at (set xs v infinity) v ≡ infinity
+      new xs h = get_or-set_same xs v infinity infinity (omega arith)
 
       behind : (i : ℕ) → j ≤ i → (i ≡ j → ⊥) → j + 1 ≤ i
       behind i h p = elim (dec_le i j) [ yes b ↦ absurd (p (le_antisymm b h)) | no b ↦ omega arith ]
 
-  pub clearing_end : (j < count → ⊥) → length touched ≡ most_nodes → Unswept ds done touched
+  pub clearing_end : (j < count → ⊥) → length touched ≡ most_nodes → Unswept (swept ds done touched)
   clearing_end h room =
       let all : (v : ℕ) → distance_at ds v ≡ infinity = λ v. elim (C.left v) [ inl e ↦ e | inr q ↦ absurd (h (le_trans (suc_mono j q.0 q.1) q.2)) ] in
       record {
@@ -244,7 +249,5 @@ module _ (touched : List ℕ) (count j : ℕ) (ds done : List Float) (C : Cleari
       same xs long all = ext_get_or infinity xs (replicate most_nodes infinity) (long ∙ sym (length-replicate most_nodes infinity)) (λ i l. all i ∙ sym (get_d_same most_nodes i infinity))
 
 -- arrays that were never swept
-pub unswept_new : (far : Float) → far ≡ infinity → Unswept (replicate most_nodes far) (replicate most_nodes far) (replicate most_nodes 0)
-unswept_new far e =
-    subst (λ (x : Float). Unswept (replicate most_nodes x) (replicate most_nodes x) (replicate most_nodes 0)) (sym e)
-    (record { none = refl; never = refl; room = length-replicate {A = ℕ} most_nodes 0 })
+pub unswept_new : Unswept (swept (replicate most_nodes infinity) (replicate most_nodes infinity) (replicate most_nodes 0))
+unswept_new = record { none = refl; never = refl; room = length-replicate {A = ℕ} most_nodes 0 }

@@ -11,6 +11,7 @@ use Rattle.repair_spec.specs.Distance.{infinity, zero_length, distance_at}
 use Rattle.repair_spec.specs.Relax.{key_at, AllNonneg}
 use Rattle.repair_spec.specs.Cost.{Way}
 use Rattle.repair_search.specs.Touched.{Listed}
+use Rattle.repair_sweep.specs.declared.Sweep.{Sweep}
 
 -- distances in an array of all nodes, with the list of the nodes that were reached
 pub record Reached (n : ℕ) (ds : List Float) (touched : List ℕ) (count : ℕ) : Type 0 where
@@ -19,11 +20,11 @@ pub record Reached (n : ℕ) (ds : List Float) (touched : List ℕ) (count : ℕ
   pub listed : Listed n ds touched count
 
 -- what sweeps leave: no distance is above the one at which the node's edges were last looked along
-pub record Looked (n : ℕ) (ds done : List Float) (touched : List ℕ) (count : ℕ) : Type 0 where
-  pub reached : Reached n ds touched count
-  pub long : length done ≡ most_nodes
-  pub nonneg : AllNonneg done
-  pub lower : (v : ℕ) → key_at ds v ≤ key_at done v
+pub record Looked (n : ℕ) (w : Sweep) (count : ℕ) : Type 0 where
+  pub reached : Reached n w.dist w.touched count
+  pub long : length w.done ≡ most_nodes
+  pub nonneg : AllNonneg w.done
+  pub lower : (v : ℕ) → key_at w.dist v ≤ key_at w.done v
 
 -- from s, along the edges es: the distance of s is zero, each is infinity or the cost of a way, and none is above what an edge offered when it was last looked along
 pub record Sweeping (es : List Edge) (s : ℕ) (ds done : List Float) : Type 0 where
@@ -32,15 +33,15 @@ pub record Sweeping (es : List Edge) (s : ℕ) (ds done : List Float) : Type 0 w
   pub along : (e : Edge) → In e es → (u v : ℕ) → Joins e u v → key_at ds v ≤ key binary64 (add binary64 (distance_at done u) e.weight)
 
 -- so it is still, whichever node it began at
-abbrev pub GoesOn : List Edge → List Float → List Float → List Float → List Float → Type 0
-GoesOn es ds done ds' done' = (s : ℕ) → Sweeping es s ds done → Sweeping es s ds' done'
+abbrev pub GoesOn : List Edge → Sweep → Sweep → Type 0
+GoesOn es w w' = (s : ℕ) → Sweeping es s w.dist w.done → Sweeping es s w'.dist w'.done
 
 -- no node has come nearer since its edges were last looked along
-abbrev pub Settled : List Float → List Float → Type 0
-Settled ds done = (v : ℕ) → key_at done v ≤ key_at ds v
+abbrev pub Settled : Sweep → Type 0
+Settled w = (v : ℕ) → key_at w.done v ≤ key_at w.dist v
 
 -- what sweeps ask for, and what clearing leaves
-pub record Unswept (ds done : List Float) (touched : List ℕ) : Type 0 where
-  pub none : ds ≡ replicate most_nodes infinity
-  pub never : done ≡ replicate most_nodes infinity
-  pub room : length touched ≡ most_nodes
+pub record Unswept (w : Sweep) : Type 0 where
+  pub none : w.dist ≡ replicate most_nodes infinity
+  pub never : w.done ≡ replicate most_nodes infinity
+  pub room : length w.touched ≡ most_nodes

@@ -41,9 +41,8 @@ pub struct Least {
 pub fn take_lesser(b: Least, c: f64, at: usize) -> Least
     ensures { least result.cost result.at ≡ lesser (least b.cost b.at) c at }
 {
-    let best = b.cost;
-    if c < best {
-        return Least { cost: c, at: at };
+    if c < b.cost {
+        return Least { cost: c, at };
     }
     b
 }

@@ -6,14 +6,14 @@ use Prim.Native.Nat.{ℕ, zero, suc, ◌+◌, ◌*◌, ◌-◌, ◌/◌, ◌%◌
 use native.Mathlib.Nat.{le_refl, le_trans, le_of_lt, le_antisymm}
 use native.Mathlib.Decide.{dec_le}
 use native.Mathlib.Omega.{arith}
-use lib.ListN.{length, set, replicate, length-set, length-replicate, get_or-replicate}
+use lib.ListN.{length, set, length-set, length-replicate, get_or-replicate}
 use lib.Seq.{get_or-set_same, get_or-set_other}
 use lib.Ieee.{Float, nan, binary64, lt}
 use Rattle.limits.specs.Limits.{most_nodes}
 use Rattle.sums.specs.Key.{Nonneg, key}
 use Rattle.sums.proofs.KeyLaws.{key_inj, lt_false, lt_true}
 use Rattle.sums.proofs.Sum.{inf_nonneg}
-use Rattle.repair_tournament.specs.Tree.{Stored, Tree, Won, at, infinity, lesser, pick, value}
+use Rattle.repair_tournament.specs.Tree.{Stored, Tree, Won, at, infinity, lesser, no_values, pick, value}
 
 -- ---- order
 
@@ -191,7 +191,7 @@ module _ (n v : ℕ) (x : Float) (t : List Float) (few : n ≤ most_nodes) (is_v
     }
 
 -- ---- nothing stored yet
-pub tree_none : (n : ℕ) → n ≤ most_nodes → Tree n (replicate (2 * most_nodes) infinity)
+pub tree_none : (n : ℕ) → n ≤ most_nodes → Tree n no_values
 tree_none n few = record {
   long = length-replicate {A = Float} (2 * most_nodes) infinity;
   nonneg = λ i h. rw (get_or-replicate (2 * most_nodes) i infinity nan h) (inf_nonneg binary64);

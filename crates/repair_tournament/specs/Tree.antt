@@ -1,6 +1,6 @@
 -- A tournament over n values. The value v stands at n + v, and each place j from 1 up to n - 1 has the lesser of what stands at 2 j and 2 j + 1, so that place 1 has the least.
 -- Any n will do, not only a power of two: halving leads from every place to place 1.
-use Rattle.std.specs.Prelude.{◌≡◌, List, Bool, true, false, ℕ, ◌+◌, ◌*◌, ◌<◌, length, get_or, Float}
+use Rattle.std.specs.Prelude.{◌≡◌, List, Bool, true, false, ℕ, ◌+◌, ◌*◌, ◌<◌, length, get_or, replicate, Float}
 use Rattle.std.specs.Float.{nan, inf, binary64}
 use Rattle.std.specs.Float.Ieee.{lt}
 use Rattle.limits.specs.Limits.{most_nodes}
@@ -16,6 +16,10 @@ lesser x y = pick (lt y x) y x
 
 abbrev pub infinity : Float
 infinity = inf false
+
+-- nothing is stored yet
+abbrev pub no_values : List Float
+no_values = replicate (2 * most_nodes) infinity
 
 abbrev pub at : List Float → ℕ → Float
 at t i = get_or t i nan

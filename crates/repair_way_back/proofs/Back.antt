@@ -1,4 +1,4 @@
--- The way back in the arrays, by its steps: each is that of `way_back`. Assumes nothing.
+-- The way back in the arrays, by its steps: each is that of `way_back`.
 use mathlib.Core.Path.{◌≡◌, refl, sym, ap, subst, ◌∙◌}
 use mathlib.Core.List.{List, [], ◌∷◌}
 use mathlib.Core.Bool.{Bool, true, false, ◌&&◌, ◌||◌, not}
@@ -64,18 +64,14 @@ module _ (es : List Edge) (ds : List Float) (s : ℕ) where
         ∙ ap (λ (q : Step). elim q as (λ q. Path) [ to u ↦ way_back k es ds s u (v ∷ after) | none ↦ error ]) e
 
 -- as the code finds it, by the arc's node u and its edge e
-module _ (ends : List ℕ) (weights ds : List Float) (seen : List Bool) (v k u : ℕ) (is_to : u ≡ get_or ends (k - 1) 0) where
-  pub fitting_seen : get_or seen u false ≡ true → false ≡ fitting ends weights ds seen v k
+module _ (a : Adjacency) (ds : List Float) (seen : List Bool) (v k u : ℕ) (is_to : u ≡ get_or a.ends (k - 1) 0) where
+  pub fitting_seen : get_or seen u false ≡ true → false ≡ fitting a ds seen v k
   unfolding fitting
-  fitting_seen h =
-      sym (ap (λ (b : Bool). not b && on_way_back (get_or ds (get_or ends (k - 1) 0) nan) (get_or weights (edge_number k) nan) (get_or ds v nan)) (ap (λ (x : ℕ). get_or seen x false) (sym is_to) ∙ h))
+  fitting_seen h = rw (← is_to, h)
 
-  pub fitting_back : get_or seen u false ≡ false → (e : ℕ) → e ≡ edge_number k → on_way_back (get_or ds u nan) (get_or weights e nan) (get_or ds v nan) ≡ fitting ends weights ds seen v k
+  pub fitting_back : get_or seen u false ≡ false → (e : ℕ) → e ≡ edge_number k → on_way_back (get_or ds u nan) (get_or a.weights e nan) (get_or ds v nan) ≡ fitting a ds seen v k
   unfolding fitting
-  fitting_back h e is_edge =
-      ap (λ (b : Bool). not b && on_way_back (get_or ds u nan) (get_or weights e nan) (get_or ds v nan)) (sym h)
-      ∙ ap (λ (x : ℕ). not (get_or seen u false) && on_way_back (get_or ds u nan) (get_or weights x nan) (get_or ds v nan)) is_edge
-      ∙ ap (λ (x : ℕ). not (get_or seen x false) && on_way_back (get_or ds x nan) (get_or weights (edge_number k) nan) (get_or ds v nan)) is_to
+  fitting_back h e is_edge = rw (← is_to, ← is_edge, h)
 
 -- the nodes seen are those on the way
 abbrev Marked : List Bool → List ℕ → Type 0
@@ -101,7 +97,7 @@ marked_more seen visited v h m u l = elim (dec_le u v) [
     other q = get_or-set_other seen v u true false q ∙ m u l ∙ sym (ap (λ (b : Bool). b || member u visited) (ne_eqb u v q))
 
 fitting_is : (g : Adjacency) (ds : List Float) (seen : List Bool) (visited : List ℕ) (v k : ℕ) → length ds ≡ most_nodes → Marked seen visited → v < most_nodes
-    → get_or g.ends (k - 1) 0 < most_nodes → fitting g.ends g.weights ds seen v k ≡ test ds (distance_at ds v) visited (arc_at g k)
+    → get_or g.ends (k - 1) 0 < most_nodes → fitting g ds seen v k ≡ test ds (distance_at ds v) visited (arc_at g k)
 unfolding fitting arc_at
 fitting_is g ds seen visited v k long m hv hu =
     let u = get_or g.ends (k - 1) 0 in
@@ -146,53 +142,52 @@ module _ (n m : ℕ) (a : Adjacency) (E : EdgesLinked n m a) (ds : List Float) (
         sym (way_end es ds s v (drop at path)) ∙ ap (λ (k : ℕ). way_back k es ds s v (drop at path)) (sym no_steps) ∙ W.rest
 
     -- a step more: v is written down, and marked
-    module _ (more : most_nodes - n < at) where
-      place : at - 1 < length path
+    module _ (i : ℕ) (next : suc i ≡ at) (more : most_nodes - n < at) where
+      place : i < length path
       place = omega (arith, W.path_long, W.most)
 
       -- the path with v
-      written : drop (at - 1) (set path (at - 1) v) ≡ v ∷ drop at path
+      written : drop i (set path i v) ≡ v ∷ drop at path
       written =
-          let p' = set path (at - 1) v in
-          let next : suc (at - 1) ≡ at = omega arith in
-          drop-cons p' (at - 1) 0 (subst (λ (m : ℕ). at - 1 < m) (sym (length-set path (at - 1) v)) place)
-          ∙ ap (λ (x : ℕ). x ∷ drop (suc (at - 1)) p') (get_or-set_same path (at - 1) v 0 place)
-          ∙ ap (λ (x : List ℕ). v ∷ x) (drop-set-lt (suc (at - 1)) path (at - 1) v (omega arith) ∙ ap (λ (m : ℕ). drop m path) next)
+          let p' = set path i v in
+          drop-cons p' i 0 (subst (λ (m : ℕ). i < m) (sym (length-set path i v)) place)
+          ∙ ap (λ (x : ℕ). x ∷ drop (suc i) p') (get_or-set_same path i v 0 place)
+          ∙ ap (λ (x : List ℕ). v ∷ x) (drop-set-lt (suc i) path i v (omega arith) ∙ ap (λ (m : ℕ). drop m path) next)
 
-      pub going_long : length (set path (at - 1) v) ≡ most_nodes
-      going_long = length-set path (at - 1) v ∙ W.path_long
+      pub going_long : length (set path i v) ≡ most_nodes
+      going_long = length-set path i v ∙ W.path_long
 
       -- what is left, by one step
-      on : way_back (suc (at - 1 - (most_nodes - n))) es ds s v (drop at path) ≡ way_back n es ds s t []
-      on = let steps : suc (at - 1 - (most_nodes - n)) ≡ at - (most_nodes - n) = omega arith in ap (λ (k : ℕ). way_back k es ds s v (drop at path)) steps ∙ W.rest
+      on : way_back (suc (i - (most_nodes - n))) es ds s v (drop at path) ≡ way_back n es ds s t []
+      on = let steps : suc (i - (most_nodes - n)) ≡ at - (most_nodes - n) = omega arith in ap (λ (k : ℕ). way_back k es ds s v (drop at path)) steps ∙ W.rest
 
-      pub going_here : v ≡ s → found (drop (at - 1) (set path (at - 1) v)) ≡ way_back n es ds s t []
-      going_here h = ap found written ∙ sym (way_here es ds s (at - 1 - (most_nodes - n)) v (drop at path) h) ∙ on
+      pub going_here : v ≡ s → found (drop i (set path i v)) ≡ way_back n es ds s t []
+      going_here h = ap found written ∙ sym (way_here es ds s (i - (most_nodes - n)) v (drop at path) h) ∙ on
 
-      seen_more : Marked (set seen v true) (drop (at - 1) (set path (at - 1) v))
+      seen_more : Marked (set seen v true) (drop i (set path i v))
       seen_more = subst (Marked (set seen v true)) (sym written) (marked_more seen (drop at path) v (omega (arith, W.seen_long, W.is_node, few)) W.marked)
 
       -- along the arcs of v
       abbrev pub step_from : List Arc → Step
-      step_from = step_back ds (distance_at ds v) (drop (at - 1) (set path (at - 1) v))
+      step_from = step_back ds (distance_at ds v) (drop i (set path i v))
 
       module _ (away : v ≡ s → ⊥) (k : ℕ) (F : From step_from a (edges_at es v) v k (step_from (edges_at es v))) where
-        by_step : (p : Step) → step_from (edges_at es v) ≡ p → elim p [ to u ↦ way_back (at - 1 - (most_nodes - n)) es ds s u (v ∷ drop at path) | none ↦ error ] ≡ way_back n es ds s t []
+        by_step : (p : Step) → step_from (edges_at es v) ≡ p → elim p [ to u ↦ way_back (i - (most_nodes - n)) es ds s u (v ∷ drop at path) | none ↦ error ] ≡ way_back n es ds s t []
         by_step p e =
-            sym (way_on es ds s (at - 1 - (most_nodes - n)) v (drop at path) away p (ap (λ (x : List ℕ). step_back ds (distance_at ds v) x (edges_at es v)) (sym written) ∙ e)) ∙ on
+            sym (way_on es ds s (i - (most_nodes - n)) v (drop at path) away p (ap (λ (x : List ℕ). step_back ds (distance_at ds v) x (edges_at es v)) (sym written) ∙ e)) ∙ on
 
         pub going_none : k ≡ 0 → error ≡ way_back n es ds s t []
         going_none h = by_step none (sym (from_end step_from a (edges_at es v) v k _ F h) ∙ step_none ds (distance_at ds v) _)
 
         module _ (some : k ≡ 0 → ⊥) (K : Known n a (edges_at es v) v k) where
-          arc_test : fitting a.ends a.weights ds (set seen v true) v k ≡ test ds (distance_at ds v) (drop (at - 1) (set path (at - 1) v)) (arc_at a k)
+          arc_test : fitting a ds (set seen v true) v k ≡ test ds (distance_at ds v) (drop i (set path i v)) (arc_at a k)
           arc_test = fitting_is a ds (set seen v true) _ v k long seen_more (omega (arith, W.is_node, few)) (omega (arith, K.to, few))
 
-          pub going_skip : fitting a.ends a.weights ds (set seen v true) v k ≡ false → From step_from a (edges_at es v) v (next_arc a.next a.heads v k) (step_from (edges_at es v))
+          pub going_skip : fitting a ds (set seen v true) v k ≡ false → From step_from a (edges_at es v) v (next_arc a.next a.heads v k) (step_from (edges_at es v))
           going_skip h = from_next step_from a (edges_at es v) v k _ F some step_from (λ rs. step_skip ds (distance_at ds v) _ (arc_at a k) rs (sym arc_test ∙ h))
 
-          pub going_on : fitting a.ends a.weights ds (set seen v true) v k ≡ true
-              → Going n es ds s t (get_or a.ends (k - 1) 0) (at - 1) (set path (at - 1) v) (set seen v true)
+          pub going_on : fitting a ds (set seen v true) v k ≡ true
+              → Going n es ds s t (get_or a.ends (k - 1) 0) i (set path i v) (set seen v true)
           unfolding arc_at
           going_on h = record {
             is_node = K.to;
@@ -202,6 +197,6 @@ module _ (n m : ℕ) (a : Adjacency) (E : EdgesLinked n m a) (ds : List Float) (
             marked = seen_more;
             rest =
                 let here = from_here step_from a (edges_at es v) v k _ F some in
-                ap (way_back (at - 1 - (most_nodes - n)) es ds s (get_or a.ends (k - 1) 0)) written
+                ap (way_back (i - (most_nodes - n)) es ds s (get_or a.ends (k - 1) 0)) written
                 ∙ by_step (to (get_or a.ends (k - 1) 0)) (sym here.1 ∙ step_hit ds (distance_at ds v) _ (arc_at a k) here.0 (sym arc_test ∙ h));
           }

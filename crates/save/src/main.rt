@@ -2,8 +2,7 @@
 // number goes to standard error and nothing to standard output.
 #![tactic(auto)]
 
-use limits::{MOST_BYTES, MOST_FILE};
-use writer::Answer;
+use limits::{MOST_BYTES, MOST_FILE, Refusal};
 
 // A file that is longer than check 1 allows is refused, so that one byte more is enough of it.
 const FILE_ROOM: usize = MOST_BYTES + 1;
@@ -11,9 +10,9 @@ const FILE_ROOM: usize = MOST_BYTES + 1;
 // The room that `put_refusal` asks for.
 const TEXT_ROOM: usize = 29;
 
-fn print_refusal(number: u8) {
+fn print_refusal(refusal: Refusal) {
     let mut text = [0u8; TEXT_ROOM];
-    let k = planner_text::put_refusal(&mut text, number);
+    let k = planner_text::put_refusal(&mut text, refusal.number());
     io::write_all(2, &text[..k]);
 }
 
@@ -21,11 +20,10 @@ fn main() {
     let mut file = [0u8; FILE_ROOM];
     let n = io::read_full(0, &mut file);
     let mut destination = [0u8; MOST_FILE];
-    let answer = writer_again::save_again(&file[..n], &mut destination);
-    match answer {
-        Answer::Refused(number) => print_refusal(number),
-        Answer::Written(bytes) => {
+    match writer_again::save_again(&file[..n], &mut destination) {
+        Ok(bytes) => {
             io::write_all(1, &destination[..bytes]);
         }
+        Err(refusal) => print_refusal(refusal),
     }
 }

@@ -1,5 +1,5 @@
 -- Laws of the definitions in specs/.
 pub mod Cursor
-pub mod Entries
+pub mod EntriesLaws
 pub mod Standing
 pub mod Walks

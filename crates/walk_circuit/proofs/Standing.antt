@@ -23,7 +23,7 @@ use Rattle.walk_spec.proofs.Circuit.{count_edges}
 use Rattle.walk_spec.proofs.Next.{Leads, Fits, next_fits}
 use Rattle.walk_circuit.proofs.Cursor.{Cursor, ArcThere, stays_set, cursor_first, cursor_later, cursor_pass, cursor_none, cursor_free, cursor_arc}
 use Rattle.walk_circuit.specs.Entries.{by_of, entry_of, entries_of, entries_from}
-use Rattle.walk_circuit.proofs.Entries.{by_edge, stack_of, stack_other, entries_other, stack_push, stack_top, entries_put}
+use Rattle.walk_circuit.proofs.EntriesLaws.{by_edge, stack_of, stack_other, entries_other, stack_push, stack_top, entries_put}
 use Rattle.walk_circuit.specs.FirstArcs.{FirstArcs}
 
 -- ---- the definition, a step at a time

@@ -1,21 +1,19 @@
 -- The laws of Standing for the edges that the arrays hold, in the words of the code.
 use mathlib.Core.Path.{◌≡◌, subst, sym, ◌∙◌}
 use mathlib.Core.List.{List, ◌∷◌}
-use mathlib.Core.Bool.{true, false}
+use mathlib.Core.Bool.{Bool, true, false}
 use Prim.Native.Nat.{ℕ, ◌+◌, ◌-◌, ◌*◌, ◌≤◌, ◌<◌}
 use native.Mathlib.Omega.{arith}
-use lib.ListN.{length, get_or, set, replicate, length-replicate}
+use lib.ListN.{length, get_or, set, replicate}
 use Rattle.limits.specs.Limits.{edge_room, arc_room, line_room}
 use Rattle.graph_spec.specs.Graph.{edges_at}
 use Rattle.graph_adjacency.specs.Lists.{Adjacency, first_arc, next_arc, edge_number}
 use Rattle.graph_arrays.specs.Arrays.{EdgesLinked, edges_in}
 use Rattle.graph_arrays.proofs.Arrays.{edges_count, follows_edges}
 use Rattle.walk_spec.specs.Walk.{circuit}
-use Rattle.walk_marks.specs.Marks.{words, marks_in}
-use Rattle.walk_marks.proofs.Marks.{marks_none}
 use Rattle.walk_circuit.proofs.Cursor.{Cursor, cursor_first, cursor_pass, cursor_arc, cursor_within}
 use Rattle.walk_circuit.specs.Entries.{EntriesIn, entry_of, entries_from}
-use Rattle.walk_circuit.proofs.Entries.{entries_put}
+use Rattle.walk_circuit.proofs.EntriesLaws.{entries_put}
 use Rattle.walk_circuit.specs.FirstArcs.{FirstArcs}
 use Rattle.walk_circuit.proofs.Standing.{Stand, stand, Standing, Within, marks_of, mark_is, off_more, push_stands, pop_stands, over_by, out_by, stands_within, start_stands}
 
@@ -58,9 +56,9 @@ module _ (n m : ℕ) (a : Adjacency) (L : EdgesLinked n m a) where
     pub walks_within : (t : Stand) → Walks n m a s fuel t → Within n t.nodes t.bys t.depth t.node t.place
     walks_within t w = stands_within n (edges_in m a) a s L.few_nodes few L.inside fuel t w
 
-    -- a step is taken
-    pub walks_less : (t : Stand) → 0 < fuel → Walks n m a s fuel t → Walks n m a s (fuel - 1 + 1) t
-    walks_less t l w = let is : fuel ≡ fuel - 1 + 1 = omega arith in subst (λ (f : ℕ). Standing n (edges_in m a) a s f t) is w
+    -- a turn more is taken
+    pub walks_turn : (turns : ℕ) (t : Stand) → turns < fuel → Walks n m a s (fuel - turns) t → Walks n m a s (fuel - (turns + 1) + 1) t
+    walks_turn turns t l w = let is : fuel - turns ≡ fuel - (turns + 1) + 1 = omega arith in subst (λ (f : ℕ). Standing n (edges_in m a) a s f t) is w
 
     -- the cursor of the node in hand
     pub walks_look : (k : ℕ) (t : Stand) → Walks n m a s fuel t → k ≡ get_or t.cursors t.node 0 → Looks n m a k t
@@ -97,12 +95,12 @@ module _ (n m : ℕ) (a : Adjacency) (L : EdgesLinked n m a) where
     pub out_walks : (t : Stand) → fuel ≤ 0 → Walks n m a s fuel t → Over n m a s t.nodes t.bys t.node t.by t.place
     out_walks t z w = out_by n (edges_in m a) a s L.few_nodes few L.inside fuel t w z
 
-  pub start_walks : (s : ℕ) (arcs : List ℕ) → FirstArcs a.heads n arcs → s < n
-      → Walks n m a s (2 * m + 1) (stand (marks_in (replicate words 0)) arcs (replicate line_room 0) (replicate line_room 0) 0 s 0 line_room)
-  start_walks s arcs f ls =
-      rw marks_none (subst (λ (k : ℕ). Standing n (edges_in m a) a s (2 * k + 1) (stand (replicate edge_room false) arcs (replicate line_room 0) (replicate line_room 0) 0 s 0 line_room)) (edges_count m a)
-      (start_stands n (edges_in m a) a s arcs (replicate line_room 0) (replicate line_room 0) few (λ v h. follows_edges n m a L v (omega (arith, L.few_nodes))) f ls
-      (length-replicate {A = ℕ} line_room 0) (length-replicate {A = ℕ} line_room 0)))
+  pub start_walks : (s : ℕ) (marks : List Bool) (arcs nodes bys : List ℕ) → marks ≡ replicate edge_room false → FirstArcs a.heads n arcs → s < n
+      → length nodes ≡ line_room → length bys ≡ line_room → Walks n m a s (2 * m + 1 - 0) (stand marks arcs nodes bys 0 s 0 line_room)
+  start_walks s marks arcs nodes bys none f ls ln lb =
+      let turns : 2 * length (edges_in m a) + 1 ≡ 2 * m + 1 - 0 = omega (arith, edges_count m a) in
+      rw none (subst (λ (f : ℕ). Standing n (edges_in m a) a s f (stand (replicate edge_room false) arcs nodes bys 0 s 0 line_room)) turns
+      (start_stands n (edges_in m a) a s arcs nodes bys few (λ v h. follows_edges n m a L v (omega (arith, L.few_nodes))) f ls ln lb))
 
 -- the last entry goes in front
 module _ (n : ℕ) (nodes bys : List ℕ) (depth node by place : ℕ) (w : Within n nodes bys depth node place) where

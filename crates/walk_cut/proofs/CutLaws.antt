@@ -14,7 +14,7 @@ use Rattle.walk_spec.specs.Walk.{Entry, nodes_of}
 use Rattle.walk_spec.specs.VirtualStep.{is_by, cut_at}
 use Rattle.graph_arrays.specs.NodeList.{NodeList}
 use Rattle.walk_circuit.specs.Entries.{EntriesIn, by_of, entry_of, entries_of, entries_from}
-use Rattle.walk_cut.specs.Copy.{places_of, Copy}
+use Rattle.walk_cut.specs.Copy.{places_of, nodes_from, Copy}
 use Rattle.walk_cut.proofs.CopyLaws.{below_append, places_below, taken_nodes, copy_nodes}
 use Rattle.walk_cut.specs.Cut.{EnteredAt, cut_line}
 
@@ -105,10 +105,10 @@ entries_some n first ns e = omega (arith, e.nodes_in_known first (omega arith) e
 pub whole_nodes : (first : ℕ) (ns line₀ line : List ℕ) (r : ℕ) → Copy ns first line_room line₀ 0 line r → (n : ℕ) → EntriesIn n first ns → NodeList n line_room line r
 whole_nodes first ns line₀ line r c n e = copy_nodes ns first line_room n line r c (omega arith) (entries_some n first ns e) e.nodes_in_known
 
-module _ (i first : ℕ) (ns bs line₀ : List ℕ) (p : ℕ) (f : EnteredAt bs first (i + 1) p) where
-  pub cut_whole : (line : List ℕ) (r : ℕ) → line_room ≤ p → Copy ns first line_room line₀ 0 line r → take r line ≡ cut_line i first ns bs
-  cut_whole line r h c = c.is ∙ sym (cut_none ns bs i first p h f)
+pub cut_whole : (i first : ℕ) (ns bs line : List ℕ) (r : ℕ) → EnteredAt bs first (i + 1) line_room → take r line ≡ nodes_from first ns → take r line ≡ cut_line i first ns bs
+cut_whole i first ns bs line r f e = e ∙ sym (cut_none ns bs i first line_room (omega arith) f)
 
+module _ (i first : ℕ) (ns bs line₀ : List ℕ) (p : ℕ) (f : EnteredAt bs first (i + 1) p) where
   module _ (line line' : List ℕ) (m r : ℕ) (h : p < line_room) (c : Copy ns p line_room line₀ 0 line m) (d : Copy ns (first + 1) p line m line' r) where
     both : take r line' ≡ places_of (line_room - p) p ns ++ places_of (p - (first + 1)) (first + 1) ns
     both = d.is ∙ ap (λ (l : List ℕ). l ++ places_of (p - (first + 1)) (first + 1) ns) c.is
@@ -141,8 +141,8 @@ module _ (bys : List ℕ) (first b : ℕ) where
     before = λ j h k e. elim (ℕ_discrete j p) [ yes q ↦ n (rw (← q) e) | no a ↦ f.before j h (omega (arith, k, a)) e ];
   }
 
-  pub passed_found : (p : ℕ) → Passed bys first b p → get_or bys p 0 ≡ b → EnteredAt bys first b p
-  passed_found p f e = record { from = f.from; within = f.within; before = f.before; is = λ h. e }
+  pub passed_found : (p : ℕ) → p < line_room → Passed bys first b p → get_or bys p 0 ≡ b → EnteredAt bys first b p × (p < line_room)
+  passed_found p h f e = (record { from = f.from; within = f.within; before = f.before; is = λ l. e }, h)
 
-  pub passed_all : (p : ℕ) → line_room ≤ p → Passed bys first b p → EnteredAt bys first b p
-  passed_all p l f = record { from = f.from; within = f.within; before = f.before; is = λ h. absurd (omega (arith, h)) }
+  pub passed_all : (p : ℕ) → line_room ≤ p → Passed bys first b p → EnteredAt bys first b line_room
+  passed_all p l f = record { from = omega (arith, f.from, f.within); within = omega arith; before = λ j h k. f.before j h (omega (arith, k)); is = λ h. absurd (omega (arith, h)) }

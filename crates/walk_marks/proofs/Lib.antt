@@ -1,3 +1,3 @@
 -- Laws of the definitions in specs/, and marks worked out.
-pub mod Marks
+pub mod MarksLaws
 pub mod Examples

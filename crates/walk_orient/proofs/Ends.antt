@@ -4,6 +4,7 @@ use mathlib.Core.List.{List, [], ◌∷◌, map}
 use Prim.Native.Nat.{ℕ, zero, suc, ◌-◌, ◌≤◌, ◌<◌}
 use native.Mathlib.Omega.{arith}
 use lib.ListN.{length, get_or, take}
+use Rattle.std.specs.Prelude.{Some, None}
 use Rattle.limits.specs.Limits.{line_room}
 use Rattle.drawing_spec.specs.Drawing as drawn
 use Rattle.lists.specs.Members.{All}
@@ -13,10 +14,13 @@ use Rattle.walk_spec.specs.Orient as line
 use Rattle.graph_arrays.specs.Arrays.{point_in, nodes_in}
 use Rattle.graph_arrays.specs.NodeList.{NodeList, points_along}
 use Rattle.graph_arrays.proofs.NodeList.{point_at_lem}
-use Rattle.walk_start.specs.declared.Point.{Point}
+use Rattle.grid.specs.declared.Point.{Point}
 use Rattle.walk_start.specs.Better.{point_from}
-use Rattle.walk_orient.specs.declared.EndPoints.TheVariants as variant
+use Rattle.walk_orient.specs.declared.EndPoints.{EndPoints}
 use Rattle.walk_orient.specs.Ends.{ends_from}
+
+abbrev pub both : Point → Point → EndPoints
+both p q = record { first = p; last = q }
 
 -- the last of the first suc n elements
 last_is : (f : ℕ → drawn.Point) (x : ℕ) (l : List ℕ) (n : ℕ) → n ≤ length l → last_from (f x) (map f (take n l)) ≡ f (get_or (x ∷ l) n 0)
@@ -31,7 +35,7 @@ ends_are f [] n h = absurd (omega arith)
 ends_are f (x ∷ l) n h = ap (line.ends (f x)) (last_is f x l n (omega arith))
 
 module _ (n : ℕ) (xs ys nodes : List ℕ) (count : ℕ) (l : NodeList n line_room nodes count) where
-  pub no_ends : count ≡ 0 → variant.Empty ≡ ends_from (line.end_points (points_along n xs ys nodes count))
+  pub no_ends : count ≡ 0 → None ≡ ends_from (line.end_points (points_along n xs ys nodes count))
   unfolding line.end_points
   no_ends h = rw h
 
@@ -40,11 +44,11 @@ module _ (n : ℕ) (xs ys nodes : List ℕ) (count : ℕ) (l : NodeList n line_r
   at_is j v a h hv ea = ea ∙ ap (λ (u : ℕ). point_from (point_in xs ys u)) hv ∙ ap point_from (sym (point_at_lem n xs ys (get_or nodes j 0) (l.nodes_in_known j h)))
 
   pub some_ends : (a b : Point) (v w : ℕ) → 0 < count → v ≡ get_or nodes 0 0 → w ≡ get_or nodes (count - 1) 0 → a ≡ point_from (point_in xs ys v) → b ≡ point_from (point_in xs ys w)
-      → variant.Ends a b ≡ ends_from (line.end_points (points_along n xs ys nodes count))
+      → Some (both a b) ≡ ends_from (line.end_points (points_along n xs ys nodes count))
   some_ends a b v w h hv hw ea eb =
       let one : count ≡ suc (count - 1) = omega arith in
       let long : suc (count - 1) ≤ length nodes = omega (arith, l.long) in
-      ap₂ variant.Ends (at_is 0 v a h hv ea) (at_is (count - 1) w b (omega arith) hw eb)
+      ap₂ (λ (p q : Point). Some (both p q)) (at_is 0 v a h hv ea) (at_is (count - 1) w b (omega arith) hw eb)
       ∙ ap ends_from (sym (ends_are (point_at (nodes_in n xs ys)) nodes (count - 1) long) ∙ ap (λ (k : ℕ). line.end_points (points_along n xs ys nodes k)) (sym one))
 
 -- what holds of every point holds of both ends

@@ -16,7 +16,7 @@ use Rattle.walk_spec.specs.Start.{distance, best_of, best}
 use Rattle.graph_arrays.specs.Arrays.{point_in, nodes_in, NodesHeld}
 use Rattle.graph_arrays.specs.NodeList.{NodeList}
 use Rattle.graph_arrays.proofs.NodeList.{point_at_lem}
-use Rattle.walk_start.specs.declared.Point.{Point}
+use Rattle.grid.specs.declared.Point.{Point}
 use Rattle.walk_start.specs.Better.{point_from, point_of, lies_better, better_of}
 
 -- the code's comparison is the definition's

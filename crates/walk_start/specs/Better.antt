@@ -4,7 +4,7 @@ use Rattle.center.specs.Center.{better}
 use Rattle.drawing_spec.specs.Drawing as drawn
 use Rattle.graph_spec.specs.Graph.{point_at}
 use Rattle.walk_spec.specs.Start.{distance}
-use Rattle.walk_start.specs.declared.Point.{Point}
+use Rattle.grid.specs.declared.Point.{Point}
 
 -- a point of the definitions, as the code holds it, and back
 abbrev pub point_from : drawn.Point → Point

@@ -1,15 +1,17 @@
 -- The whole answer of the writer.
 use mathlib.Core.Path.{◌≡◌, refl, sym, ap, subst, ◌∙◌}
 use mathlib.Core.List.{List, [], ◌∷◌, ◌++◌}
-use mathlib.Core.Bool.{Bool, true, false, ◌&&◌}
-use Prim.Native.Nat.{ℕ, ◌+◌, ◌*◌, ◌/◌, ◌%◌, ◌^◌, ◌≤◌, ◌<◌}
+use mathlib.Core.Bool.{true}
+use Prim.Native.Nat.{ℕ, ◌+◌, ◌*◌, ◌/◌, ◌^◌, ◌≤◌, ◌<◌}
 use native.Mathlib.Nat.{zero-add}
 use native.Mathlib.Omega.{arith}
 use lib.ListN.{length, get_or, take, drop}
 use lib.Seq.{sets, sets-eq}
-use lib.Dec.{eqb}
-use borrow.Author.Tests.{ltb-false, eq-eqb, ne_eqb, not-false}
+use borrow.Author.Tests.{ltb-false, not-false}
 use Rattle.limits.specs.Limits.{refused_lengths, refused_counts, refused_destination, most_lines, most_points, most_links}
+use Rattle.limits.specs.declared.Refusal.{Refusal}
+use Rattle.limits.specs.declared.Refusal.TheVariants.{Bytes, Cut, Kinds, Lengths, Settings, Counts, OwnLinks, Coordinates, Links, Apart, Tables, Path, Edges, Output, Destination}
+use Rattle.limits.specs.Refused.{number_of}
 use Rattle.lists.proofs.Members.{all_by_place}
 use Rattle.drawing_spec.specs.Bytes.{in_front}
 use Rattle.drawing_spec.specs.Refusal.{accepted, refusal_of, verdict, holds}
@@ -23,28 +25,26 @@ use Rattle.writer_spec.proofs.Saved.{answered_refused, answered_accepted, given_
 use Rattle.writer_records.specs.Stored.{lines_size, FileRoom}
 use Rattle.writer_checks.proofs.CheckedLaws.{counts_few, size_in, counts_are, size_is}
 
--- ---- tests one after the other
+-- ---- a refusal has a number
 
-module _ (sizes coordinates segments ends : List ℕ) (t : Bool) (e : t ≡ eqb (2 * total sizes) (length coordinates)) where
-  pub unpaired : t ≡ false → false ≡ fitting sizes coordinates segments ends
-  unfolding fitting
-  unpaired q = sym (λ i. ((sym e ∙ q) i && eqb (length segments % 4) 0) && eqb (length segments) (length ends))
-
-  module _ (q : t ≡ true) where
-    pub no_fours : (length segments % 4 ≡ 0 → ⊥) → false ≡ fitting sizes coordinates segments ends
-    unfolding fitting
-    no_fours h = sym (λ i. ((sym e ∙ q) i && ne_eqb (length segments % 4) 0 h i) && eqb (length segments) (length ends))
-
-    pub paired : length segments % 4 ≡ 0 → eqb (length segments) (length ends) ≡ fitting sizes coordinates segments ends
-    unfolding fitting
-    paired h = sym (λ i. ((sym e ∙ q) i && eq-eqb (length segments % 4) 0 h i) && eqb (length segments) (length ends))
-
-module _ (a b t : Bool) (e : t ≡ a) where
-  pub first_off : t ≡ false → false ≡ a && b
-  first_off q = sym (ap (λ (x : Bool). x && b) (sym e ∙ q))
-
-  pub first_on : t ≡ true → (u : Bool) → u ≡ b → u ≡ a && b
-  first_on q u i = i ∙ sym (ap (λ (x : Bool). x && b) (sym e ∙ q))
+pub numbered : (r : Refusal) → number_of r ≡ 0 → ⊥
+numbered r = elim r as (λ (x : Refusal). number_of x ≡ 0 → ⊥) [
+  | Bytes ↦ λ e. omega arith
+  | Cut ↦ λ e. omega arith
+  | Kinds ↦ λ e. omega arith
+  | Lengths ↦ λ e. omega arith
+  | Settings ↦ λ e. omega arith
+  | Counts ↦ λ e. omega arith
+  | OwnLinks ↦ λ e. omega arith
+  | Coordinates ↦ λ e. omega arith
+  | Links ↦ λ e. omega arith
+  | Apart ↦ λ e. omega arith
+  | Tables ↦ λ e. omega arith
+  | Path ↦ λ e. omega arith
+  | Edges ↦ λ e. omega arith
+  | Output ↦ λ e. omega arith
+  | Destination ↦ λ e. omega arith
+]
 
 -- ---- the whole answer
 

@@ -13,11 +13,10 @@ ghost use Rattle.writer.specs.Saved.{saved_from};
 ghost use Rattle.writer_again.specs.Again.{WritesCleaned};
 ghost use Rattle.writer_again.specs.Filled.{size_at, sizes_in, bits_of, coordinates_in, segments_of, segments_in, ends_of, ends_in, given_in, Rising, Numbers, AreNumbers, Savable};
 
-use file::Verdict;
 use file_drawing::Drawing;
 use file_records::MstEdge;
-use limits::{MOST_LINES, MOST_LINKS, MOST_POINTS};
-use writer::Answer;
+use limits::{MOST_LINES, MOST_LINKS, MOST_POINTS, Refusal};
+use writer_records::Given;
 
 // Where each line starts among the points, and where the last one ends.
 const STARTS: usize = MOST_LINES + 1;
@@ -33,9 +32,7 @@ fn size_at(starts: &[u16; STARTS], line: usize) -> u32
     requires { (line < most_lines) × (get_or starts.now line 0 ≤ get_or starts.now (line + 1) 0) }
     ensures { result ≡ size_at starts.now line }
 {
-    let first = starts[line];
-    let next = starts[line + 1];
-    widen::to_u32(next - first)
+    u32::from(starts[line + 1] - starts[line])
 }
 
 fn sizes_of(starts: &[u16; STARTS], lines: usize) -> [u32; MOST_LINES]
@@ -43,10 +40,8 @@ fn sizes_of(starts: &[u16; STARTS], lines: usize) -> [u32; MOST_LINES]
     ensures { result ≡ sets (replicate most_lines 0) 0 (sizes_in starts.now lines) }
 {
     let mut sizes = [0u32; MOST_LINES];
-    let mut line = 0;
-    while line < lines {
+    for line in 0..lines {
         sizes[line] = size_at(starts, line);
-        line += 1;
     }
     sizes
 }
@@ -69,10 +64,8 @@ fn coordinates_of(
     ensures { result ≡ sets (replicate (2 * most_points) 0) 0 (coordinates_in xs.now ys.now points) }
 {
     let mut coordinates = [0u64; COORDINATES];
-    let mut point = 0;
-    while point < points {
+    for point in 0..points {
         put_point(&mut coordinates, 2 * point, xs[point], ys[point]);
-        point += 1;
     }
     coordinates
 }
@@ -82,31 +75,21 @@ fn put_segments(segments: &mut [u32; ENDS], at: usize, e: MstEdge)
     requires { at + 4 ≤ 4 * most_links }
     ensures { segments.new ≡ sets segments.old at (segments_of e) }
 {
-    segments[at] = widen::to_u32(e.poly_a);
-    segments[at + 1] = widen::to_u32(e.seg_a);
-    segments[at + 2] = widen::to_u32(e.poly_b);
-    segments[at + 3] = widen::to_u32(e.seg_b);
+    segments[at] = u32::from(e.poly_a);
+    segments[at + 1] = u32::from(e.seg_a);
+    segments[at + 2] = u32::from(e.poly_b);
+    segments[at + 3] = u32::from(e.seg_b);
 }
 
-fn segments_of(edges: [MstEdge; MOST_LINKS], links: usize) -> [u32; ENDS]
+fn segments_of(edges: &[MstEdge; MOST_LINKS], links: usize) -> [u32; ENDS]
     requires { links ≤ most_links }
-    ensures { result ≡ sets (replicate (4 * most_links) 0) 0 (segments_in edges links) }
+    ensures { result ≡ sets (replicate (4 * most_links) 0) 0 (segments_in edges.now links) }
 {
     let mut segments = [0u32; ENDS];
-    let mut link = 0;
-    while link < links {
-        let e = edges[link];
-        put_segments(&mut segments, 4 * link, e);
-        link += 1;
+    for link in 0..links {
+        put_segments(&mut segments, 4 * link, edges[link]);
     }
     segments
-}
-
-fn bits_of(x: f64) -> u64
-    requires { T (not (is_nan x)) }
-    ensures { result ≡ to_bits binary64 x }
-{
-    f64::to_bits(x)
 }
 
 // Puts x and y of each end of a link.
@@ -116,67 +99,52 @@ fn put_ends(ends: &mut [u64; ENDS], at: usize, e: MstEdge)
 {
     let a = e.point_a;
     let b = e.point_b;
-    ends[at] = bits_of(a.x);
-    ends[at + 1] = bits_of(a.y);
-    ends[at + 2] = bits_of(b.x);
-    ends[at + 3] = bits_of(b.y);
+    ends[at] = a.x.to_bits();
+    ends[at + 1] = a.y.to_bits();
+    ends[at + 2] = b.x.to_bits();
+    ends[at + 3] = b.y.to_bits();
 }
 
-fn ends_of(edges: [MstEdge; MOST_LINKS], links: usize) -> [u64; ENDS]
-    requires { (links ≤ most_links) × AreNumbers edges links }
-    ensures { result ≡ sets (replicate (4 * most_links) 0) 0 (ends_in edges links) }
+fn ends_of(edges: &[MstEdge; MOST_LINKS], links: usize) -> [u64; ENDS]
+    requires { (links ≤ most_links) × AreNumbers edges.now links }
+    ensures { result ≡ sets (replicate (4 * most_links) 0) 0 (ends_in edges.now links) }
 {
     let mut ends = [0u64; ENDS];
-    let mut link = 0;
-    while link < links {
-        let e = edges[link];
-        put_ends(&mut ends, 4 * link, e);
-        link += 1;
+    for link in 0..links {
+        put_ends(&mut ends, 4 * link, edges[link]);
     }
     ends
 }
 
 // Saves a drawing in flat arrays.
-fn save_arrays(drawing: Drawing, destination: &mut [u8]) -> Answer
-    requires { Savable drawing }
-    ensures { saved_from result destination.new ≡ save_given (given_in drawing) destination.old }
+fn save_arrays(drawing: &Drawing, destination: &mut [u8]) -> Result<usize, Refusal>
+    requires { Savable drawing.now }
+    ensures { saved_from result destination.new ≡ save_given (given_in drawing.now) destination.old }
 {
-    let settings = drawing.settings;
+    let sizes = sizes_of(&drawing.starts, drawing.lines);
+    let coordinates = coordinates_of(&drawing.xs, &drawing.ys, drawing.points);
+    let segments = segments_of(&drawing.links, drawing.link_count);
+    let ends = ends_of(&drawing.links, drawing.link_count);
     let lines = drawing.lines;
-    let starts = drawing.starts;
-    let sizes = sizes_of(&starts, lines);
-    let xs = drawing.xs;
-    let ys = drawing.ys;
-    let coordinates = coordinates_of(&xs, &ys, drawing.points);
     let both = 2 * drawing.points;
-    let links = drawing.links;
-    let segments = segments_of(links, drawing.link_count);
-    let ends = ends_of(links, drawing.link_count);
     let four = 4 * drawing.link_count;
-    writer::save(
-        destination,
-        settings,
-        &sizes[..lines],
-        &coordinates[..both],
-        &segments[..four],
-        &ends[..four],
-    )
+    let given = Given {
+        settings: drawing.settings,
+        sizes: &sizes[..lines],
+        coordinates: &coordinates[..both],
+        segments: &segments[..four],
+        ends: &ends[..four],
+    };
+    writer::save(destination, &given)
 }
 
 // Reads a drawing file, whatever its bytes are, and saves what was read. Refused as the reader would refuse it, or because the destination
 // is too short, the destination keeps its bytes; otherwise those past the file do, and what stands before them is the cleaned file: the one
 // that was read, with a plain zero for each minus zero.
-pub fn save_again(file: &[u8], destination: &mut [u8]) -> Answer
+pub fn save_again(file: &[u8], destination: &mut [u8]) -> Result<usize, Refusal>
     ensures saved { saved_from result destination.new ≡ save_again file.now destination.old }
     ensures cleaned { WritesCleaned result file.now destination.old destination.new }
 {
-    let reading = file::read(file);
-    let verdict = reading.verdict;
-    match verdict {
-        Verdict::Refused(number) => Answer::Refused(number),
-        Verdict::Accepted => {
-            let drawing = reading.drawing;
-            save_arrays(drawing, destination)
-        }
-    }
+    let drawing = file::read(file)?;
+    save_arrays(&drawing, destination)
 }

@@ -6,10 +6,13 @@ use Prim.Native.Nat.{ℕ, zero, suc, ◌+◌, ◌-◌, ◌*◌, ◌/◌, ◌≤�
 use native.Mathlib.Nat.{add-zero}
 use native.Mathlib.Numerals.{add-one}
 use native.Mathlib.Omega.{arith}
-use lib.ListN.{length, get_or, take, drop, length-drop, drop_of_length-le, get_or-eq_default}
+use lib.ListN.{length, get_or, take, drop, length-drop, drop_of_length-le}
 use lib.Seq.{drop-drop, drop-cons, get_or-drop}
 use lib.Dec.{eqb, leb, ltb}
-use borrow.Author.Tests.{eqb-true, eqb-false, eq-eqb, ne_eqb, leb-true, lt-ltb}
+use borrow.Author.Tests.{eqb-true, eqb-false, eq-eqb, ne_eqb, leb-true}
+use Rattle.std.proofs.Common.{get_or-take}
+use Rattle.std.specs.List.{list_all}
+use Rattle.std.specs.Simd.{first_chunks}
 use Rattle.limits.specs.Limits.{file_size, most_lines, most_points, most_links}
 use Rattle.grid.specs.Grid.{read_place, on_grid}
 use Rattle.drawing_spec.proofs.Same.{both}
@@ -22,7 +25,7 @@ use Rattle.writer_spec.proofs.Lengths.{file_length, saved_length}
 use Rattle.writer_spec.proofs.Given.{Fitting, total_cons, total_nil, lines_long, sizes_are, line_long, links_long}
 use Rattle.writer_checks.specs.Checked.{all_on, end_in, link_in, links_in}
 
-abbrev on : ℕ → Bool
+abbrev pub on : ℕ → Bool
 on w = on_grid (read_place w)
 
 abbrev points_on : List (PointOf Pattern) → Bool
@@ -148,22 +151,30 @@ module _ (g : Given) where
     pub size_is : length (saved_file (sketch_given g)) ≡ size_in g
     size_is = saved_length (sketch_given g) ∙ file_length (sketch_given g) ∙ parts
 
--- ---- the loop over coordinates
+-- ---- the chains over coordinates and over links
 
-on_step : (ws : List ℕ) (i : ℕ) → i < length ws → all_on (drop i ws) ≡ on (get_or ws i 0) && all_on (drop (i + 1) ws)
-unfolding all_on every
-on_step ws i h = ap all_on (drop-cons ws i 0 h) ∙ ap (λ (k : ℕ). on (get_or ws i 0) && all_on (drop k ws)) (sym (add-one i))
+every_is : {A : Type 0} (f : A → Bool) (xs : List A) → every f xs ≡ list_all f xs
+unfolding every
+every_is f [] = refl
+every_is f (x ∷ xs) = ap (λ (t : Bool). f x && t) (every_is f xs)
 
-module _ (ws : List ℕ) (i : ℕ) (e : all_on (drop i ws) ≡ all_on ws) where
-  pub row_on : i < length ws → (t : Bool) → t ≡ on (get_or ws i 0) → t ≡ true → all_on (drop (i + 1) ws) ≡ all_on ws
-  row_on h t k q = sym (on_step ws i h ∙ ap (λ (b : Bool). b && all_on (drop (i + 1) ws)) (sym k ∙ q)) ∙ e
+pub all_are : (ws : List ℕ) → all_on ws ≡ list_all on ws
+unfolding all_on
+all_are ws = every_is on ws
 
-  pub row_off : i < length ws → (t : Bool) → t ≡ on (get_or ws i 0) → t ≡ false → false ≡ all_on ws
-  row_off h t k q = sym (on_step ws i h ∙ ap (λ (b : Bool). b && all_on (drop (i + 1) ws)) (sym k ∙ q)) ∙ e
+in_four : (from j : ℕ) (vs : List ℕ) → j < 4 → get_or (take 4 (drop from vs)) j 0 ≡ get_or vs (from + j) 0
+in_four from j vs h = get_or-take 4 (drop from vs) j 0 h ∙ get_or-drop from vs j 0
 
-  pub row_end : length ws ≤ i → true ≡ all_on ws
-  unfolding all_on every
-  row_end h = sym (ap all_on (drop_of_length-le ws {i = i} h)) ∙ e
+pub links_are_all : (sizes segments : List ℕ) (k from : ℕ) → links_in sizes segments k from ≡ list_all (λ (l : List ℕ). link_in sizes l 0) (first_chunks 4 k (drop from segments))
+unfolding links_in
+links_are_all sizes segments zero from = refl
+links_are_all sizes segments (suc k) from =
+    let first = in_four from 0 segments (omega arith) ∙ ap (λ (j : ℕ). get_or segments j 0) (add-zero from) in
+    let second = in_four from 1 segments (omega arith) in
+    let third = in_four from 2 segments (omega arith) in
+    let fourth = in_four from 3 segments (omega arith) in
+    (λ i. (end_in sizes (sym first i) (sym second i) && end_in sizes (sym third i) (sym fourth i)) && links_are_all sizes segments k (from + 4) i)
+    ∙ ap (λ (vs : List ℕ). link_in sizes (take 4 (drop from segments)) 0 && list_all (λ (l : List ℕ). link_in sizes l 0) (first_chunks 4 k vs)) (sym (drop-drop 4 from segments))
 
 -- ---- the loop over the lines' points
 
@@ -193,35 +204,3 @@ module _ (sizes words : List ℕ) where
       go : (t : Bool) → eqb left 0 ≡ t → t ≡ eqb (2 * total sizes) (length words)
       go true e = let z = eqb-true left 0 e in let a = c.is in let b = none in sym (eq-eqb (2 * total sizes) (length words) (omega arith))
       go false e = let z = eqb-false left 0 e in let a = c.is in let b = none in sym (ne_eqb (2 * total sizes) (length words) (λ q. z (omega arith)))
-
--- ---- one end
-
-module _ (sizes : List ℕ) (line segment : ℕ) where
-  pub no_line : length sizes ≤ line → false ≡ end_in sizes line segment
-  unfolding end_in
-  no_line h = rw (get_or-eq_default sizes 0 {n = line} h)
-
-  pub empty_line : get_or sizes line 0 ≡ 0 → false ≡ end_in sizes line segment
-  unfolding end_in
-  empty_line h = rw h
-
-  pub some_points : (most : ℕ) → (get_or sizes line 0 ≡ 0 → ⊥) → most ≡ get_or sizes line 0 - 2 → leb segment most ≡ end_in sizes line segment
-  unfolding end_in
-  some_points most h e = rw (lt-ltb 0 (get_or sizes line 0) (omega arith), e)
-
--- ---- the loop over links
-
-module _ (sizes segments : List ℕ) (from left : ℕ) (e : links_in sizes segments left from ≡ links_in sizes segments (length segments / 4) 0) where
-  linked : 0 < left → links_in sizes segments left from ≡ link_in sizes segments from && links_in sizes segments (left - 1) (from + 4)
-  unfolding links_in
-  linked h = let k : left ≡ suc (left - 1) = omega arith in ap (λ (j : ℕ). links_in sizes segments j from) k
-
-  pub links_on_more : 0 < left → (t : Bool) → t ≡ link_in sizes segments from → t ≡ true → links_in sizes segments (left - 1) (from + 4) ≡ links_in sizes segments (length segments / 4) 0
-  links_on_more h t k q = sym (linked h ∙ ap (λ (b : Bool). b && links_in sizes segments (left - 1) (from + 4)) (sym k ∙ q)) ∙ e
-
-  pub links_off : 0 < left → (t : Bool) → t ≡ link_in sizes segments from → t ≡ false → false ≡ links_in sizes segments (length segments / 4) 0
-  links_off h t k q = sym (linked h ∙ ap (λ (b : Bool). b && links_in sizes segments (left - 1) (from + 4)) (sym k ∙ q)) ∙ e
-
-  pub links_end : left ≤ 0 → true ≡ links_in sizes segments (length segments / 4) 0
-  unfolding links_in
-  links_end h = let z : left ≡ 0 = omega arith in sym (ap (λ (j : ℕ). links_in sizes segments j from) z) ∙ e

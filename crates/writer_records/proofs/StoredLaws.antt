@@ -1,13 +1,14 @@
 -- Laws of specs/Stored: numbers stored one behind the other, and records.
 use mathlib.Core.Path.{◌≡◌, refl, sym, ap, ◌∙◌}
-use mathlib.Core.List.{List, [], ◌∷◌, ◌++◌, map}
-use Prim.Native.Nat.{ℕ, zero, suc, ◌+◌, ◌-◌, ◌*◌, ◌/◌, ◌≤◌, ◌<◌}
-use native.Mathlib.Nat.{mul-zero, mul-suc, add_comm}
+use mathlib.Core.List.{List, [], ◌∷◌, ◌++◌, map, append_assoc, append-nil}
+use Prim.Native.Nat.{ℕ, suc, ◌+◌, ◌-◌, ◌*◌, ◌/◌, ◌≤◌, ◌<◌}
+use native.Mathlib.Nat.{add-zero, sub-zero, mul-zero, mul-suc, add_comm}
 use native.Mathlib.Numerals.{add-one}
 use native.Mathlib.Omega.{arith}
 use lib.ListN.{length, get_or, take, drop, length-append, length-drop, length-map, drop_of_length-le, get_or-map}
 use lib.Seq.{sets, length-sets, drop-cons, length-take-le}
-use Rattle.lists.proofs.Parts.{sets_append}
+use Rattle.std.proofs.lemmas.List.{take-map, take_more, take_all}
+use Rattle.lists.proofs.Parts.{sets_append, drop_map}
 use Rattle.limits.specs.Limits.{kind_line, kind_link}
 use Rattle.grid.specs.Grid.{clean}
 use Rattle.drawing_spec.specs.Bytes.{bytes}
@@ -34,52 +35,13 @@ numbers_length w (v ∷ vs) =
     let all : w * suc (length vs) ≡ w + w * length vs = mul-suc w (length vs) ∙ add_comm (w * length vs) w in
     ap length (numbers_cons w v vs) ∙ length-append (bytes w v) (numbers_bytes w vs) ∙ (λ i. here i + later i) ∙ sym all
 
-part_cons : (vs : List ℕ) (next left : ℕ) → 0 < left → next < length vs → part vs next left ≡ get_or vs next 0 ∷ part vs (next + 1) (left - 1)
-part_cons vs next zero h i = absurd (omega arith)
-part_cons vs next (suc left) h i =
-    let e : suc left - 1 ≡ left = omega arith in
-    ap (take (suc left)) (drop-cons vs next 0 i) ∙ λ z. get_or vs next 0 ∷ take (sym e z) (drop (sym (add-one next) z) vs)
+numbers_append : (w : ℕ) (us vs : List ℕ) → numbers_bytes w (us ++ vs) ≡ numbers_bytes w us ++ numbers_bytes w vs
+unfolding numbers_bytes
+numbers_append w [] vs = refl
+numbers_append w (u ∷ us) vs = ap (λ (l : List ℕ). bytes w u ++ l) (numbers_append w us vs) ∙ sym (append_assoc (bytes w u) (numbers_bytes w us) (numbers_bytes w vs))
 
--- the numbers that are left, stored from here on, give all
-pub record Putting (w : ℕ) (d₀ : List ℕ) (at : ℕ) (vs : List ℕ) (from count : ℕ) (d : List ℕ) (place next left : ℕ) : Type 0 where
-  pub is : sets d place (numbers_bytes w (part vs next left)) ≡ sets d₀ at (numbers_bytes w (part vs from count))
-  pub inside : next + left ≤ length vs
-  pub long : length d ≡ length d₀
-
-module _ (w : ℕ) (d₀ : List ℕ) (at : ℕ) (vs : List ℕ) (from count : ℕ) where
-  pub put_none : from + count ≤ length vs → Putting w d₀ at vs from count d₀ at from count
-  put_none h = record { is = refl; inside = h; long = refl }
-
-  pub put_more : (d d' : List ℕ) (place next left v : ℕ) → 0 < left → v ≡ get_or vs next 0 → d' ≡ sets d place (bytes w v) → Putting w d₀ at vs from count d place next left
-      → Putting w d₀ at vs from count d' (place + w) (next + 1) (left - 1)
-  put_more d d' place next left v h e f p =
-      let i = p.inside in
-      let rest = part vs (next + 1) (left - 1) in
-      let here : numbers_bytes w (part vs next left) ≡ bytes w v ++ numbers_bytes w rest =
-      ap (numbers_bytes w) (part_cons vs next left h (omega arith)) ∙ ap (λ (x : ℕ). numbers_bytes w (x ∷ rest)) (sym e) ∙ numbers_cons w v rest in
-      record {
-        is =
-            ap (λ (l : List ℕ). sets l (place + w) (numbers_bytes w rest)) f
-            ∙ ap (λ (k : ℕ). sets (sets d place (bytes w v)) (place + k) (numbers_bytes w rest)) (sym (bytes_length w v))
-            ∙ sym (sets_append d place (bytes w v) (numbers_bytes w rest))
-            ∙ ap (sets d place) (sym here)
-            ∙ p.is;
-        inside = omega arith;
-        long = ap length f ∙ length-sets d place (bytes w v) ∙ p.long;
-      }
-
-  pub put_all : (d : List ℕ) (place next left : ℕ) → left ≤ 0 → Putting w d₀ at vs from count d place next left → d ≡ sets d₀ at (numbers_bytes w (part vs from count))
-  put_all d place next left h p =
-      let z : left ≡ 0 = omega arith in
-      sym (ap (λ (k : ℕ). sets d place (numbers_bytes w (part vs next k))) z ∙ ap (sets d place) (numbers_nil w)) ∙ p.is
-
-pub put_none_clean : (d₀ : List ℕ) (at : ℕ) (ws : List ℕ) (from count : ℕ) → from + count ≤ length ws → Putting 8 d₀ at (map clean ws) from count d₀ at from count
-put_none_clean d₀ at ws from count h = let same = length-map ws clean in put_none 8 d₀ at (map clean ws) from count (omega arith)
-
--- a coordinate that is stored is the cleaned one; past the end 0 is clean
-pub clean_at : (ws : List ℕ) (i v : ℕ) → v ≡ clean (get_or ws i 0) → v ≡ get_or (map clean ws) i 0
-unfolding clean
-clean_at ws i v e = e ∙ sym (get_or-map clean ws i 0)
+numbers_one : (w v : ℕ) → numbers_bytes w (v ∷ []) ≡ bytes w v
+numbers_one w v = numbers_cons w v [] ∙ ap (λ (l : List ℕ). bytes w v ++ l) (numbers_nil w) ∙ append-nil (bytes w v)
 
 -- ---- one part behind another
 
@@ -87,20 +49,56 @@ pub both_stored : (d d' d'' : List ℕ) (at n k : ℕ) (a b : List ℕ) → leng
 both_stored d d' d'' at n k a b l m e f =
     f ∙ ap (λ (x : List ℕ). sets x k b) e ∙ ap (λ (j : ℕ). sets (sets d at a) j b) (m ∙ ap (λ (j : ℕ). at + j) (sym l)) ∙ sym (sets_append d at a b)
 
+-- ---- the first numbers of a list are stored, and then one more
+
+module _ (w : ℕ) (d₀ : List ℕ) (at : ℕ) (vs : List ℕ) where
+  abbrev pub Putting : List ℕ → ℕ → Type 0
+  Putting d k = d ≡ sets d₀ at (numbers_bytes w (take k vs))
+
+  pub put_none : Putting d₀ 0
+  put_none = sym (ap (sets d₀ at) (numbers_nil w))
+
+  pub put_more : (d d' : List ℕ) (k v : ℕ) → k < length vs → v ≡ get_or vs k 0 → d' ≡ sets d (at + w * k) (bytes w v) → Putting d k → Putting d' (k + 1)
+  put_more d d' k v h e f p =
+      let l = numbers_length w (take k vs) ∙ ap (λ (j : ℕ). w * j) (length-take-le k vs (omega arith)) in
+      both_stored d₀ d d' at (w * k) (at + w * k) (numbers_bytes w (take k vs)) (bytes w v) l refl p f
+      ∙ ap (sets d₀ at)
+      ((λ i. numbers_bytes w (take k vs) ++ sym (numbers_one w v) i)
+      ∙ sym (numbers_append w (take k vs) (v ∷ []))
+      ∙ ap (λ (x : ℕ). numbers_bytes w (take k vs ++ (x ∷ []))) e
+      ∙ ap (numbers_bytes w) (sym (take_more vs k 0 h)))
+
+  pub put_all : (d : List ℕ) (k : ℕ) → length vs ≤ k → Putting d k → d ≡ sets d₀ at (numbers_bytes w vs)
+  put_all d k h p = p ∙ ap (λ (l : List ℕ). sets d₀ at (numbers_bytes w l)) (take_all k vs h)
+
+-- a coordinate that is stored is the cleaned one; past the end 0 is clean
+pub clean_at : (ws : List ℕ) (i v : ℕ) → v ≡ clean (get_or ws i 0) → v ≡ get_or (map clean ws) i 0
+unfolding clean
+clean_at ws i v e = e ∙ sym (get_or-map clean ws i 0)
+
+-- a part of the coordinates, cleaned
+clean_part : (ws : List ℕ) (from count : ℕ) → map clean (part ws from (from + count - from)) ≡ part (map clean ws) from count
+clean_part ws from count =
+    let e : from + count - from ≡ count = omega arith in
+    ap (λ (k : ℕ). map clean (part ws from k)) e ∙ sym (ap (take count) (drop_map clean from ws) ∙ take-map clean count (drop from ws))
+
 pub head_stored : (d d' d'' : List ℕ) (at size kind : ℕ) → d' ≡ sets d at (bytes 4 size) → d'' ≡ sets d' (at + 4) (bytes 2 kind) → d'' ≡ sets d at (head_bytes size kind)
 head_stored d d' d'' at size kind e f = both_stored d d' d'' at 4 (at + 4) (bytes 4 size) (bytes 2 kind) (bytes_length 4 size) refl e f
 
 pub head_length : (size kind : ℕ) → length (head_bytes size kind) ≡ 6
 head_length size kind = omega (arith, length-append (bytes 4 size) (bytes 2 kind), bytes_length 4 size, bytes_length 2 kind)
 
-pub line_stored_lem : (d d' d'' words : List ℕ) (at from points : ℕ) → d' ≡ sets d at (head_bytes (16 * points) kind_line) → d'' ≡ sets d' (at + 6) (coordinates_stored words from (2 * points)) → d'' ≡ sets d at (line_stored words from points)
+pub line_stored_lem : (d d' d'' words : List ℕ) (at from points : ℕ) → d' ≡ sets d at (head_bytes (16 * points) kind_line) → d'' ≡ sets d' (at + 6) (numbers_bytes 8 (map clean (part words from (from + 2 * points - from)))) → d'' ≡ sets d at (line_stored words from points)
 unfolding line_stored
-line_stored_lem d d' d'' words at from points e f = both_stored d d' d'' at 6 (at + 6) (head_bytes (16 * points) kind_line) (coordinates_stored words from (2 * points)) (head_length (16 * points) kind_line) refl e f
+line_stored_lem d d' d'' words at from points e f =
+    both_stored d d' d'' at 6 (at + 6) (head_bytes (16 * points) kind_line) (coordinates_stored words from (2 * points)) (head_length (16 * points) kind_line) refl e
+    (f ∙ ap (λ (l : List ℕ). sets d' (at + 6) (numbers_bytes 8 l)) (clean_part words from (2 * points)))
 
-pub link_stored_lem : (d headed ended d' segments words : List ℕ) (at from : ℕ) → from + 4 ≤ length segments → headed ≡ sets d at (head_bytes 40 kind_link) → ended ≡ sets headed (at + 6) (numbers_bytes 2 (part segments from 4)) → d' ≡ sets ended (at + 14) (coordinates_stored words from 4)
+pub link_stored_lem : (d headed ended d' segments words : List ℕ) (at from : ℕ) → from + 4 ≤ length segments → headed ≡ sets d at (head_bytes 40 kind_link) → ended ≡ sets headed (at + 6) (numbers_bytes 2 (part segments from (from + 4 - from))) → d' ≡ sets ended (at + 14) (numbers_bytes 8 (map clean (part words from (from + 4 - from))))
     → d' ≡ sets d at (link_stored segments words from)
 unfolding link_stored
 link_stored_lem d headed ended d' segments words at from h e f g =
+    let whole : from + 4 - from ≡ 4 = omega arith in
     let a = head_bytes 40 kind_link in
     let b = numbers_bytes 2 (part segments from 4) in
     let c = coordinates_stored words from 4 in
@@ -108,7 +106,8 @@ link_stored_lem d headed ended d' segments words at from h e f g =
     let lb : length b ≡ 8 = let n = numbers_length 2 (part segments from 4) in omega arith in
     let la = head_length 40 kind_link in
     let lab : length (a ++ b) ≡ 14 = omega (arith, length-append a b) in
-    both_stored d ended d' at 14 (at + 14) (a ++ b) c lab refl (both_stored d headed ended at 6 (at + 6) a b la refl e f) g
+    both_stored d ended d' at 14 (at + 14) (a ++ b) c lab refl (both_stored d headed ended at 6 (at + 6) a b la refl e (f ∙ ap (λ (k : ℕ). sets headed (at + 6) (numbers_bytes 2 (part segments from k))) whole))
+    (g ∙ ap (λ (l : List ℕ). sets ended (at + 14) (numbers_bytes 8 l)) (clean_part words from 4))
 
 -- ---- all lines
 
@@ -202,40 +201,34 @@ pub links_cons : (k : ℕ) (segments words : List ℕ) (from : ℕ) → links_st
 unfolding links_stored
 links_cons k segments words from = refl
 
-pub record Linking (d₀ : List ℕ) (at : ℕ) (segments words d : List ℕ) (place from left : ℕ) : Type 0 where
-  pub is : sets d place (links_stored left segments words from) ≡ sets d₀ at (links_stored (length segments / 4) segments words 0)
-  pub room : place + 46 * left ≤ length d₀
-  pub in_segments : from + 4 * left ≤ length segments
-  pub in_words : from + 4 * left ≤ length words
-  pub long : length d ≡ length d₀
-
 module _ (d₀ : List ℕ) (at : ℕ) (segments words : List ℕ) where
-  pub linking_none : LinksRoom d₀ at segments words → Linking d₀ at segments words d₀ at 0 (length segments / 4)
-  linking_none r = let a = r.room in let b = r.inside in record { is = refl; room = a; in_segments = omega arith; in_words = omega arith; long = refl }
+  -- the links that are left, stored from here on, give all
+  pub record Linking (d : List ℕ) (k : ℕ) : Type 0 where
+    pub is : sets d (at + 46 * k) (links_stored (length segments / 4 - k) segments words (4 * k)) ≡ sets d₀ at (links_stored (length segments / 4) segments words 0)
 
-  pub linking_more : (d d' : List ℕ) (place from left : ℕ) → 0 < left → d' ≡ sets d place (link_stored segments words from) → Linking d₀ at segments words d place from left → Linking d₀ at segments words d' (place + 46) (from + 4) (left - 1)
-  linking_more d d' place from left h e p =
-      let a = p.room in
-      let b = p.in_segments in
-      let c = p.in_words in
-      let k : left ≡ suc (left - 1) = omega arith in
+  pub linking_none : Linking d₀ 0
+  linking_none = let n = length segments / 4 in record { is = simp (add-zero, mul-zero, sub-zero) }
+
+  pub linking_more : (d d' : List ℕ) (k : ℕ) → LinksRoom d₀ at segments words → k < length segments / 4 → d' ≡ sets d (at + 46 * k) (link_stored segments words (4 * k)) → Linking d k → Linking d' (k + 1)
+  linking_more d d' k r h e p =
+      let place = at + 46 * k in
+      let from = 4 * k in
+      let left = length segments / 4 - (k + 1) in
+      let i = r.inside in
+      let n : length segments / 4 - k ≡ suc left = omega arith in
       let l = link_stored_length segments words from (omega arith) (omega arith) in
-      let more = links_stored (left - 1) segments words (from + 4) in
+      let behind : at + 46 * (k + 1) ≡ place + length (link_stored segments words from) = omega arith in
+      let next : 4 * (k + 1) ≡ from + 4 = omega arith in
       record {
         is =
-            ap (λ (x : List ℕ). sets x (place + 46) more) e
-            ∙ ap (λ (j : ℕ). sets (sets d place (link_stored segments words from)) (place + j) more) (sym l)
-            ∙ sym (sets_append d place (link_stored segments words from) more)
-            ∙ ap (sets d place) (sym (ap (λ (j : ℕ). links_stored j segments words from) k ∙ links_cons (left - 1) segments words from))
+            (λ z. sets (e z) (behind z) (links_stored left segments words (next z)))
+            ∙ sym (sets_append d place (link_stored segments words from) (links_stored left segments words (from + 4)))
+            ∙ ap (sets d place) (sym (ap (λ (j : ℕ). links_stored j segments words from) n ∙ links_cons left segments words from))
             ∙ p.is;
-        room = omega arith;
-        in_segments = omega arith;
-        in_words = omega arith;
-        long = ap length e ∙ length-sets d place (link_stored segments words from) ∙ p.long;
       }
 
-  pub linking_all : (d : List ℕ) (place from left : ℕ) → left ≤ 0 → Linking d₀ at segments words d place from left → d ≡ sets d₀ at (links_stored (length segments / 4) segments words 0)
+  pub linking_all : (d : List ℕ) (k : ℕ) → length segments / 4 ≤ k → Linking d k → d ≡ sets d₀ at (links_stored (length segments / 4) segments words 0)
   unfolding links_stored
-  linking_all d place from left h p =
-      let z : left ≡ 0 = omega arith in
-      sym (ap (λ (k : ℕ). sets d place (links_stored k segments words from)) z) ∙ p.is
+  linking_all d k h p =
+      let z : length segments / 4 - k ≡ 0 = omega arith in
+      sym (ap (λ (j : ℕ). sets d (at + 46 * k) (links_stored j segments words (4 * k))) z) ∙ p.is

@@ -1,2 +1,3 @@
--- What the writer stores, record by record.
+-- What the writer is handed, and what it stores, record by record.
+pub mod Handed
 pub mod Stored

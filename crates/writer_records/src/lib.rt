@@ -1,14 +1,16 @@
 // The records of a drawing that is handed in as slices, put into a destination that has room for them: settings, lines, links.
 #![tactic(auto)]
 
-ghost use Rattle.std.specs.Prelude.{◌≡◌, ◌+◌, ◌*◌, ◌/◌, ◌≤◌, length};
+ghost use Rattle.std.specs.Prelude.{◌≡◌, ◌+◌, ◌*◌, ◌/◌, ◌≤◌, length, map};
 ghost use Rattle.std.proofs.lemmas.List.Edits.{sets};
+ghost use Rattle.grid.specs.Grid.{clean};
 ghost use Rattle.limits.specs.Limits.{head_size, settings_size, point_size, link_size};
 ghost use Rattle.file_records.specs.Meaning.{settings_of};
 ghost use Rattle.writer_spec.specs.File.{record_bytes, settings_as_record};
 ghost use Rattle.writer_spec.specs.Save.{saved_file};
-ghost use Rattle.writer_spec.specs.Given.{given, sketch_given};
-ghost use Rattle.writer_records.specs.Stored.{numbers_bytes, part, coordinates_stored, head_bytes, line_stored, link_stored, LinesRoom, LinesPut, LinksRoom, links_stored, FileRoom};
+ghost use Rattle.writer_spec.specs.Given.{sketch_given};
+ghost use Rattle.writer_records.specs.Handed.{handed};
+ghost use Rattle.writer_records.specs.Stored.{numbers_bytes, head_bytes, line_stored, link_stored, LinesRoom, LinesPut, LinksRoom, links_stored, FileRoom};
 
 use file_records::Settings;
 use limits::{
@@ -29,36 +31,35 @@ const LINK_RECORD: usize = HEAD_SIZE + LINK_SIZE;
 // Where the coordinates stand in a link's record: behind its head and four numbers of two bytes.
 const LINK_COORDINATES: usize = HEAD_SIZE + 8;
 
-// Puts `count` coordinates of a slice, from an index on, 8 bytes each: plain zero for minus zero.
-fn write_coordinates(destination: &mut [u8], at: usize, words: &[u64], from: usize, count: usize)
-    requires { (at + 8 * count ≤ length destination.old) × (from + count ≤ length words.now) }
-    ensures { destination.new ≡ sets destination.old at (coordinates_stored words.now from count) }
+// A drawing as a caller hands it to the writer: settings; of each line how many points it has; x and y of each point, by their bits; of
+// each end of each link the line and the segment that it names; and x and y of that end. The slices may have any lengths.
+#[derive(Clone, Copy)]
+pub struct Given<'a> {
+    pub settings: Settings,
+    pub sizes: &'a [u32],
+    pub coordinates: &'a [u64],
+    pub segments: &'a [u32],
+    pub ends: &'a [u64],
+}
+
+// Puts coordinates from a place on, 8 bytes each: plain zero for minus zero.
+fn write_coordinates(destination: &mut [u8], at: usize, words: &[u64])
+    requires { at + 8 * length words.now ≤ length destination.old }
+    ensures { destination.new ≡ sets destination.old at (numbers_bytes 8 (map clean words.now)) }
 {
-    let mut place = at;
-    let mut next = from;
-    let mut left = count;
-    while left > 0 {
-        let word = grid::clean(words[next]);
-        number_bytes::write_number(destination, place, 8, word);
-        place += 8;
-        next += 1;
-        left -= 1;
+    for (k, word) in words.iter().enumerate() {
+        number_bytes::write_number(destination, at + 8 * k, 8, grid::clean(*word));
     }
 }
 
-// Puts `count` numbers of lines and segments, from an index on, 2 bytes each.
-fn write_segments(destination: &mut [u8], at: usize, segments: &[u32], from: usize, count: usize)
-    requires { (at + 2 * count ≤ length destination.old) × (from + count ≤ length segments.now) }
-    ensures { destination.new ≡ sets destination.old at (numbers_bytes 2 (part segments.now from count)) }
+// Puts numbers of lines and segments from a place on, 2 bytes each. (One function for both would take a closure for the conversion, and
+// its contract would speak of that closure's results: not plainer.)
+fn write_segments(destination: &mut [u8], at: usize, segments: &[u32])
+    requires { at + 2 * length segments.now ≤ length destination.old }
+    ensures { destination.new ≡ sets destination.old at (numbers_bytes 2 segments.now) }
 {
-    let mut place = at;
-    let mut next = from;
-    let mut left = count;
-    while left > 0 {
-        number_bytes::write_number(destination, place, 2, widen::to_u64(segments[next]));
-        place += 2;
-        next += 1;
-        left -= 1;
+    for (k, number) in segments.iter().enumerate() {
+        number_bytes::write_number(destination, at + 2 * k, 2, u64::from(*number));
     }
 }
 
@@ -77,7 +78,11 @@ fn write_line(destination: &mut [u8], at: usize, coordinates: &[u64], from: usiz
     ensures { destination.new ≡ sets destination.old at (line_stored coordinates.now from points) }
 {
     write_head(destination, at, (POINT_SIZE * points) as u64, LINE);
-    write_coordinates(destination, at + HEAD_SIZE, coordinates, from, 2 * points);
+    write_coordinates(
+        destination,
+        at + HEAD_SIZE,
+        &coordinates[from..from + 2 * points],
+    );
 }
 
 // Puts the record of a link, whose four numbers and four coordinates stand in two slices from an index on.
@@ -86,8 +91,8 @@ fn write_link(destination: &mut [u8], at: usize, segments: &[u32], ends: &[u64],
     ensures { destination.new ≡ sets destination.old at (link_stored segments.now ends.now from) }
 {
     write_head(destination, at, LINK_SIZE as u64, LINK);
-    write_segments(destination, at + HEAD_SIZE, segments, from, 4);
-    write_coordinates(destination, at + LINK_COORDINATES, ends, from, 4);
+    write_segments(destination, at + HEAD_SIZE, &segments[from..from + 4]);
+    write_coordinates(destination, at + LINK_COORDINATES, &ends[from..from + 4]);
 }
 
 // Puts the records of all lines, from a place on; the answer is the place behind them.
@@ -97,13 +102,11 @@ fn write_lines(destination: &mut [u8], at: usize, sizes: &[u32], coordinates: &[
 {
     let mut place = at;
     let mut from = 0;
-    let mut line = 0;
-    while line < sizes.len() {
-        let points = widen::wide32(sizes[line]);
+    for &points in sizes {
+        let points = points as usize;
         write_line(destination, place, coordinates, from, points);
         place += HEAD_SIZE + POINT_SIZE * points;
         from += 2 * points;
-        line += 1;
     }
     place
 }
@@ -113,14 +116,14 @@ fn write_links(destination: &mut [u8], at: usize, segments: &[u32], ends: &[u64]
     requires { LinksRoom destination.old at segments.now ends.now }
     ensures { destination.new ≡ sets destination.old at (links_stored (length segments.now / 4) segments.now ends.now 0) }
 {
-    let mut place = at;
-    let mut from = 0;
-    let mut left = segments.len() / 4;
-    while left > 0 {
-        write_link(destination, place, segments, ends, from);
-        place += LINK_RECORD;
-        from += 4;
-        left -= 1;
+    for link in 0..segments.len() / 4 {
+        write_link(
+            destination,
+            at + LINK_RECORD * link,
+            segments,
+            ends,
+            4 * link,
+        );
     }
 }
 
@@ -130,25 +133,23 @@ fn write_settings(destination: &mut [u8], s: Settings)
     ensures { destination.new ≡ sets destination.old 0 (record_bytes (settings_as_record (settings_of s))) }
 {
     write_head(destination, 0, SETTINGS_SIZE as u64, SETTINGS);
-    number_bytes::write_number(destination, 6, 4, s.width as u64);
-    number_bytes::write_number(destination, 10, 4, s.height as u64);
-    number_bytes::write_number(destination, 14, 1, s.pairing as u64);
-    number_bytes::write_number(destination, 15, 1, s.flags as u64);
+    number_bytes::write_number(destination, 6, 4, u64::from(s.width));
+    number_bytes::write_number(destination, 10, 4, u64::from(s.height));
+    number_bytes::write_number(destination, 14, 1, u64::from(s.pairing));
+    number_bytes::write_number(destination, 15, 1, u64::from(s.flags));
 }
 
 // Puts the file at the front of a destination that has room for it.
-pub fn write_file(
-    destination: &mut [u8],
-    s: Settings,
-    sizes: &[u32],
-    coordinates: &[u64],
-    segments: &[u32],
-    ends: &[u64],
-)
-    requires { FileRoom destination.old (given (settings_of s) sizes.now coordinates.now segments.now ends.now) }
-    ensures { destination.new ≡ sets destination.old 0 (saved_file (sketch_given (given (settings_of s) sizes.now coordinates.now segments.now ends.now))) }
+pub fn write_file(destination: &mut [u8], drawing: &Given)
+    requires { FileRoom destination.old (handed drawing.now) }
+    ensures { destination.new ≡ sets destination.old 0 (saved_file (sketch_given (handed drawing.now))) }
 {
-    write_settings(destination, s);
-    let end = write_lines(destination, SETTINGS_RECORD, sizes, coordinates);
-    write_links(destination, end, segments, ends);
+    write_settings(destination, drawing.settings);
+    let end = write_lines(
+        destination,
+        SETTINGS_RECORD,
+        drawing.sizes,
+        drawing.coordinates,
+    );
+    write_links(destination, end, drawing.segments, drawing.ends);
 }

@@ -1,12 +1,11 @@
 -- The bits at the place of a coordinate that check 7 passes are those that it has, with plain zero for minus zero. So a sketch, placed and given bits again, is the sketch, cleaned.
+use Rattle.std.specs.Prelude.{Option, Some, None}
 use mathlib.Core.Path.{◌≡◌, refl, ap, ◌∙◌}
 use mathlib.Core.List.{List, [], ◌∷◌, map}
 use mathlib.Core.Bool.{true, true≢false, ◌&&◌}
 use Prim.Native.Nat.{ℕ}
 use Rattle.grid.specs.Grid.{read_place, place_at, on_grid, write_place}
 use Rattle.grid.proofs.Back.{write_read}
-use Rattle.grid.specs.declared.Place.{Place}
-use Rattle.grid.specs.declared.Place.TheVariants.{On, Off}
 use Rattle.lists.specs.Members.{All}
 use Rattle.drawing_spec.proofs.Same.{both}
 use Rattle.drawing_spec.specs.Drawing.{PointOf, LinkOf, Pattern, Sketch, over_point, over_link, over}
@@ -21,9 +20,9 @@ bits_at p = record { bits = write_place p }
 same_pattern : (w : Pattern) → Word w.bits → coordinate_fits w ≡ true → bits_at (placed w) ≡ clean_pattern w
 same_pattern w h t = go (read_place w.bits) refl t
   where
-    go : (x : Place) → read_place w.bits ≡ x → on_grid x ≡ true → bits_at (placed w) ≡ clean_pattern w
-    go (On p) e t = ap (λ (b : ℕ). record { bits = b }) (ap (λ (x : Place). write_place (place_at x)) e ∙ (write_read w.bits p h e).1)
-    go Off e t = absurd (true≢false (cc))
+    go : (x : Option ℕ) → read_place w.bits ≡ x → on_grid x ≡ true → bits_at (placed w) ≡ clean_pattern w
+    go (Some p) e t = ap (λ (b : ℕ). record { bits = b }) (ap (λ (x : Option ℕ). write_place (place_at x)) e ∙ (write_read w.bits p h e).1)
+    go None e t = absurd (true≢false (cc))
 
 same_point : (p : PointOf Pattern) → PointHeld p → point_fits p ≡ true → over_point bits_at (over_point placed p) ≡ over_point clean_pattern p
 same_point p h t =

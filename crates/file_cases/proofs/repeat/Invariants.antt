@@ -1,9 +1,0 @@
--- The end stays within the room, and the measure is how many copies are left.
-use Rattle.std.proofs.Common.{◌≤◌}
-use Rattle.file_cases.proofs.repeat.Given as goal
-
-abbrev pub invariant-loop-left : goal.invariant-loop-left
-invariant-loop-left l = l.end ≤ 65600
-
-abbrev pub decreases-loop-left : goal.decreases-loop-left
-decreases-loop-left l = l.left

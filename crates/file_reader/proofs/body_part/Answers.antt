@@ -1,0 +1,9 @@
+-- By the test for a whole record.
+use Rattle.file_reader.proofs.Part.{part_whole, part_none}
+use Rattle.file_reader.proofs.body_part.Goals as goal
+
+pub returns-then-not-whole_at : goal.returns-then-not-whole_at
+returns-then-not-whole_at c = part_none c.args.file.now c.args.at _ c.whole_at.ensures c.if-not-whole_at.true
+
+pub returns : goal.returns
+returns c = part_whole c.args.file.now c.args.at _ c.whole_at.ensures _ c.if-not-whole_at.false c.size_at.ensures

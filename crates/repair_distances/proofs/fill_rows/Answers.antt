@@ -1,0 +1,6 @@
+-- Where no rows are left, all are right.
+use Rattle.std.proofs.Common.{arith}
+use Rattle.repair_distances.proofs.fill_rows.Goals as goal
+
+pub returns-else-first-count : goal.returns-else-first-count
+returns-else-first-count c = λ i j h l. c.sweep_rows-first.ensures.1 i j (omega (arith, c.if-first-count.false)) l
