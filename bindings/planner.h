@@ -87,7 +87,7 @@ struct planner_outcome {
  * doubles are aligned as C aligns them, the four ranges do not overlap, and nobody else reads or writes them before the
  * call returns. The call keeps no pointer, takes no memory from the heap and has no state of its own, so several
  * threads may call it at once, each with its own tables and output. The planner's arrays stand on the stack of the
- * calling thread: 390,104 bytes were the most that any of 203 drawings took (docs/PERFORMANCE.md), and tools/test runs
+ * calling thread: 331,320 bytes were the most that a drawing of those tried took (docs/PERFORMANCE.md), and tools/test runs
  * the examples with 2 MB.
  */
 struct planner_outcome plan(const uint8_t *file, size_t file_length, double *floats, size_t floats_length,

@@ -167,8 +167,8 @@ pub const fn output_for(points: usize) -> usize {
 ///
 /// Planned: the front of the output holds the line as a record of kind 4, and later bytes keep their values. Refused:
 /// all of the output keeps its values. In both cases both tables are zero afterwards, whatever they held before.
-/// The planner's arrays stand on the stack of the calling thread: 390,104 bytes were the most that any of 203 drawings
-/// took, where a thread has 2 MB by default.
+/// The planner's arrays stand on the stack of the calling thread: 331,320 bytes were the most that a drawing of those
+/// tried took, where a thread has 2 MB by default.
 pub fn plan<'a>(file: &[u8], floats: &mut [f64], bytes: &mut [u8], output: &'a mut [u8]) -> Result<Plan<'a>, Refusal> {
     // SAFETY: each pointer and length are those of one slice, a `&mut` overlaps no other, and the callee keeps no
     // pointer. That it stays inside them is proved.

@@ -9,11 +9,11 @@ ghost use Rattle.std.specs.Prelude.{◌≡◌, MatchResult};
 ghost use Rattle.drawing_spec.specs.Read.{records_of, drawing_of};
 ghost use Rattle.drawing_spec.specs.Accepted.{Passed};
 ghost use Rattle.file.specs.Reading.{Accepted, Refused, NoneEarly, RefusedEarly};
-ghost use Rattle.file_drawing.specs.Held.{drawing_held};
+ghost use Rattle.file_drawing.specs.Held.{drawing_held, nothing};
 
 use file_checks::{coordinates, heads, settings};
 use file_drawing::{Drawing, arrays, links};
-use limits::{MOST_BYTES, MOST_LINES, MOST_POINTS, Refusal};
+use limits::{MOST_BYTES, Refusal};
 
 // The first condition before 8 that holds. Each covers the whole file.
 fn first_refusal(file: &[u8]) -> Result<(), Refusal>
@@ -49,40 +49,49 @@ fn first_refusal(file: &[u8]) -> Result<(), Refusal>
     Ok(())
 }
 
-// The drawing of a file that none of the checks before check 8 refuses: the settings come first, and the lines start
+// Reads the drawing of a file that none of the checks before check 8 refuses: the settings come first, and the lines start
 // behind them.
-fn drawing_of(file: &[u8]) -> Drawing
-    requires { Passed file.now }
-    ensures { result ≡ drawing_held (drawing_of (records_of file.now)) }
+fn fill(file: &[u8], drawing: &mut Drawing)
+    requires passed { Passed file.now }
+    requires empty { drawing.old ≡ nothing }
+    ensures { drawing.new ≡ drawing_held (drawing_of (records_of file.now)) }
 {
     let t = heads::tally_of(file);
-    let settings = settings::settings_of(file, 0);
-    let mut starts = [0u16; MOST_LINES + 1];
-    let mut xs = [0u32; MOST_POINTS];
-    let mut ys = [0u32; MOST_POINTS];
+    drawing.settings = settings::settings_of(file, 0);
+    drawing.lines = t.lines;
+    drawing.points = t.points;
+    drawing.link_count = t.links;
     let start = file_reader::place_behind(file, 0);
-    let end = arrays::fill_lines(file, start, t.lines, &mut starts, &mut xs, &mut ys);
-    let links = arrays::read_links(file, end, t.links);
-    Drawing {
-        settings,
-        lines: t.lines,
-        starts,
-        points: t.points,
-        xs,
-        ys,
-        link_count: t.links,
-        links,
-    }
+    let end = arrays::fill_lines(
+        file,
+        start,
+        t.lines,
+        &mut drawing.starts,
+        &mut drawing.xs,
+        &mut drawing.ys,
+    );
+    drawing.links = arrays::read_links(file, end, t.links);
 }
 
-// Reads a drawing file, whatever its bytes are.
+// Reads a drawing file, whatever its bytes are, into a drawing with nothing in it: a drawing is 19 KB, and one that is handed out is
+// copied on the way. Where the file is refused, what stands in the drawing is left open.
+pub fn read_into(file: &[u8], drawing: &mut Drawing) -> Result<(), Refusal>
+    requires { drawing.old ≡ nothing }
+    ensures { MatchResult result (λ _. Accepted file.now drawing.new) (λ r. Refused file.now r) }
+{
+    first_refusal(file)?;
+    fill(file, drawing);
+    if !links::links_fit(drawing) {
+        return Err(Refusal::Links);
+    }
+    Ok(())
+}
+
+// The same, with the drawing handed out.
 pub fn read(file: &[u8]) -> Result<Drawing, Refusal>
     ensures { MatchResult result (λ d. Accepted file.now d) (λ r. Refused file.now r) }
 {
-    first_refusal(file)?;
-    let drawing = drawing_of(file);
-    if !links::links_fit(&drawing) {
-        return Err(Refusal::Links);
-    }
+    let mut drawing = Drawing::new();
+    read_into(file, &mut drawing)?;
     Ok(drawing)
 }

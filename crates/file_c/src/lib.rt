@@ -5,12 +5,15 @@ ghost use Rattle.std.specs.Prelude.{◌≡◌};
 ghost use Rattle.drawing_spec.specs.Refusal.{verdict, refusal_of};
 ghost use Rattle.drawing_spec.specs.Read.{read_conditions};
 
+use file_drawing::Drawing;
+
 #[unsafe(no_mangle)]
 pub extern "C" fn reader_refusal(file: &[u8]) -> u32
     ensures { result ≡ refusal_of (verdict (read_conditions file.now)) }
 {
-    match file::read(file) {
-        Ok(_) => 0,
+    let mut drawing = Drawing::new();
+    match file::read_into(file, &mut drawing) {
+        Ok(()) => 0,
         Err(refusal) => u32::from(refusal.number()),
     }
 }

@@ -1,5 +1,5 @@
 -- The values that the drawing holds, and what stands where there are none.
-use Rattle.std.specs.Prelude.{ℕ, ◌+◌, ◌∷◌, map, false, pos, length}
+use Rattle.std.specs.Prelude.{ℕ, ◌+◌, ◌∷◌, map, false, pos, length, replicate}
 use Rattle.std.specs.Float.{fin, nan}
 use Rattle.limits.specs.Limits.{most_lines, most_points, most_links}
 use Rattle.drawing_spec.specs.Drawing as drawn
@@ -10,6 +10,7 @@ use Rattle.file_records.specs.declared.MstEdge.{MstEdge}
 use Rattle.file_records.specs.declared.Body.{Body}
 use Rattle.file_records.specs.declared.Body.TheVariants as body
 use Rattle.file_drawing.specs.declared.Drawing.{Drawing}
+use Rattle.file_checks.specs.Settings.{no_settings}
 use Rattle.file_drawing.specs.Stores.{padded, xs_of, ys_of, ends_from}
 
 abbrev no_point : Point
@@ -17,6 +18,19 @@ no_point = record { x = fin false 0 (pos 0); y = fin false 0 (pos 0) }
 
 abbrev pub no_link : MstEdge
 no_link = record { poly_a = 0; seg_a = 0; poly_b = 0; seg_b = 0; point_a = no_point; point_b = no_point }
+
+-- a drawing with nothing in it
+abbrev pub nothing : Drawing
+nothing = record {
+  settings = no_settings;
+  lines = 0;
+  starts = replicate (most_lines + 1) 0;
+  points = 0;
+  xs = replicate most_points 0;
+  ys = replicate most_points 0;
+  link_count = 0;
+  links = replicate most_links no_link;
+}
 
 -- what the checker takes an element past the end of an array to be: no link is read there
 abbrev pub past_end : MstEdge

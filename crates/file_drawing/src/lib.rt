@@ -2,6 +2,9 @@
 // A crate of its own, so that what is built of a drawing does not depend on the checks' order.
 #![tactic(auto)]
 
+ghost use Rattle.std.specs.Prelude.{◌≡◌};
+ghost use Rattle.file_drawing.specs.Held.{nothing};
+
 pub mod arrays;
 pub mod links;
 
@@ -20,4 +23,27 @@ pub struct Drawing {
     pub ys: [u32; MOST_POINTS],
     pub link_count: usize,
     pub links: [MstEdge; MOST_LINKS],
+}
+
+impl Drawing {
+    // A drawing with nothing in it, to be read into: all zeros.
+    pub fn new() -> Self
+        ensures { result ≡ nothing }
+    {
+        Drawing {
+            settings: Settings {
+                width: 0,
+                height: 0,
+                pairing: 0,
+                flags: 0,
+            },
+            lines: 0,
+            starts: [0; MOST_LINES + 1],
+            points: 0,
+            xs: [0; MOST_POINTS],
+            ys: [0; MOST_POINTS],
+            link_count: 0,
+            links: [arrays::no_link(); MOST_LINKS],
+        }
+    }
 }

@@ -111,7 +111,7 @@ fn number8(file: &[u8], at: usize) -> u64
     ])
 }
 
-// The length of the body and the kind of the record at a place that has room for a head.
+// The length of the body and the number of the kind of the record at a place that has room for a head.
 pub fn size_at(file: &[u8], at: usize) -> usize
     requires { at + head_size ≤ length file.now }
     ensures { result ≡ size_at file.now at }
@@ -119,11 +119,11 @@ pub fn size_at(file: &[u8], at: usize) -> usize
     number4(file, at) as usize
 }
 
-pub fn kind_at(file: &[u8], at: usize) -> Kind
+pub fn kind_at(file: &[u8], at: usize) -> u16
     requires { at + head_size ≤ length file.now }
-    ensures { result ≡ kind_of (kind_at file.now at) }
+    ensures { result ≡ kind_at file.now at }
 {
-    Kind::from(number2(file, at + 4))
+    number2(file, at + 4)
 }
 
 // The place that the coordinate at `at` stands for, and nowhere where it is off the grid; whether it is on it.
@@ -194,7 +194,7 @@ fn body_at(file: &[u8], at: usize) -> Body
 {
     let size = size_at(file, at);
     let start = at + HEAD_SIZE;
-    match kind_at(file, at) {
+    match Kind::from(kind_at(file, at)) {
         Kind::Settings if size == SETTINGS_SIZE => Body::Settings(settings_at(file, start)),
         Kind::Line if size % POINT_SIZE == 0 => Body::Line(size / POINT_SIZE),
         Kind::Link if size == LINK_SIZE => Body::Link(edge_at(file, start)),

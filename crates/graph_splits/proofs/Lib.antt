@@ -2,4 +2,5 @@
 pub mod Ascending
 pub mod BufferLaws
 pub mod Next
+pub mod Shifted
 pub mod Sorted

@@ -74,8 +74,9 @@ fn link_of(drawing: Drawing, j: u32) -> MadeLink
 pub extern "C" fn made_link(file: &[u8], j: u32) -> MadeLink
     ensures { result ≡ made_link_of file.now j }
 {
-    match file::read(file) {
-        Ok(drawing) => link_of(drawing, j),
+    let mut drawing = Drawing::new();
+    match file::read_into(file, &mut drawing) {
+        Ok(()) => link_of(drawing, j),
         Err(refusal) => no_link(u32::from(refusal.number()), 0),
     }
 }

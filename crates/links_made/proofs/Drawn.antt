@@ -26,9 +26,9 @@ use Rattle.links_spec.proofs.Made.{made_links_all}
 use Rattle.links_spec.proofs.Same.{made_same}
 use Rattle.links_tree.specs.declared.Ends.{Ends}
 use Rattle.links_tree.specs.declared.Ranked.{Ranked}
-use Rattle.links_tree.specs.Packed.{AreCodes, candidate_in, point_of, ranked, ranked_at, end_in, is_marked, end_lines}
+use Rattle.links_tree.specs.Packed.{AreCodes, candidate_in, point_of, ranked, ranked_at, end_in, is_mark, marks_of, is_marked, end_lines}
 use Rattle.links_tree.proofs.Cases.{less_or}
-use Rattle.links_tree.proofs.Marks.{marked_in, is_marked_lem}
+use Rattle.links_tree.proofs.Marks.{marked_in, is_marked_lem, mark_at}
 use Rattle.links_tree.proofs.Agree.{lines_length, has_points_lem, line_two}
 use Rattle.links_made.specs.Filled.{place_in, Marked, Ended, segment_in, edge_in}
 
@@ -71,7 +71,7 @@ any_end : (ps : List Point) (e : ℕ) → end_point ps (suc e) ≡ end_point ps 
 unfolding end_point
 any_end ps e = refl
 
-module _ (n : ℕ) (starts xs ys : List ℕ) (has : List Bool) (es : List Ends) (M : Marked starts has n) (E : Ended starts xs ys es n) where
+module _ (n : ℕ) (starts xs ys : List ℕ) (has : List ℕ) (es : List Ends) (M : Marked starts has n) (E : Ended starts xs ys es n) where
   abbrev drawn : List (List Point)
   drawn = lines_back n 0 starts xs ys
 
@@ -85,21 +85,21 @@ module _ (n : ℕ) (starts xs ys : List ℕ) (has : List Bool) (es : List Ends) 
   drawn_long l h = ap length (drawn_at_lem l h) ∙ points_long (get_or starts (l + 1) 0 - get_or starts l 0) (get_or starts l 0) xs ys
 
   -- a line has points where it is marked
-  some_points : (l : ℕ) → is_marked n has l ≡ true → (l < n) × (get_or starts l 0 < get_or starts (l + 1) 0)
+  some_points : (l : ℕ) → is_marked n (marks_of has) l ≡ true → (l < n) × (get_or starts l 0 < get_or starts (l + 1) 0)
   some_points l o =
-      let p = marked_in n has l o in
-      (p.0, elim (less_or (get_or starts l 0) (get_or starts (l + 1) 0)) [ inl h ↦ h | inr h ↦ absurd (false≢true (sym (M.none l p.0 h) ∙ p.1)) ])
+      let p = marked_in n (marks_of has) l o in
+      (p.0, elim (less_or (get_or starts l 0) (get_or starts (l + 1) 0)) [ inl h ↦ h | inr h ↦ absurd (false≢true (sym (mark_at has l ∙ ap is_mark (M.none l p.0 h)) ∙ p.1)) ])
 
-  has_same : (l : ℕ) → has_points drawn l ≡ is_marked n has l
+  has_same : (l : ℕ) → has_points drawn l ≡ is_marked n (marks_of has) l
   unfolding has_points
-  has_same l = same_tests (has_points drawn l) (is_marked n has l)
+  has_same l = same_tests (has_points drawn l) (is_marked n (marks_of has) l)
       (λ h.
       let b : l < n = rw (lines_long n 0 starts xs ys) at (there drawn l h) in
-      is_marked_lem n has l b (M.some l b (omega (arith, drawn_long l b, ltb-true 0 (length (line_at drawn l)) h))))
+      is_marked_lem n (marks_of has) l b (mark_at has l ∙ ap is_mark (M.some l b (omega (arith, drawn_long l b, ltb-true 0 (length (line_at drawn l)) h)))))
       (λ o. let p = some_points l o in lt-ltb 0 (length (line_at drawn l)) (omega (arith, drawn_long l p.0, p.1)))
 
   -- the ends of a line with points are those taken out
-  drawn_end : (l e : ℕ) → is_marked n has l ≡ true → e < 2 → end_point (line_at drawn l) e ≡ end_in es l e
+  drawn_end : (l e : ℕ) → is_marked n (marks_of has) l ≡ true → e < 2 → end_point (line_at drawn l) e ≡ end_in es l e
   unfolding end_point
   drawn_end l zero o b =
       let p = some_points l o in
@@ -122,19 +122,19 @@ module _ (n : ℕ) (starts xs ys : List ℕ) (has : List Bool) (es : List Ends) 
       go [] e = refl
       go (p ∷ ps) e = absurd (false≢true (sym e ∙ lt-ltb 0 (suc (length ps)) (omega arith)))
 
-  ends_same : (l e : ℕ) → end_point (line_at drawn l) e ≡ end_point (line_at (end_lines n has es) l) e
-  ends_same l e = go (is_marked n has l) refl e
+  ends_same : (l e : ℕ) → end_point (line_at drawn l) e ≡ end_point (line_at (end_lines n (marks_of has) es) l) e
+  ends_same l e = go (is_marked n (marks_of has) l) refl e
     where
-      two : is_marked n has l ≡ true → (e : ℕ) → end_point (end_in es l 0 ∷ end_in es l 1 ∷ []) e ≡ end_point (line_at (end_lines n has es) l) e
-      two o e = ap (λ (ps : List Point). end_point ps e) (sym (line_two n has es l o))
+      two : is_marked n (marks_of has) l ≡ true → (e : ℕ) → end_point (end_in es l 0 ∷ end_in es l 1 ∷ []) e ≡ end_point (line_at (end_lines n (marks_of has) es) l) e
+      two o e = ap (λ (ps : List Point). end_point ps e) (sym (line_two n (marks_of has) es l o))
 
-      go : (t : Bool) → is_marked n has l ≡ t → (e : ℕ) → end_point (line_at drawn l) e ≡ end_point (line_at (end_lines n has es) l) e
+      go : (t : Bool) → is_marked n (marks_of has) l ≡ t → (e : ℕ) → end_point (line_at drawn l) e ≡ end_point (line_at (end_lines n (marks_of has) es) l) e
       go true o zero = drawn_end l 0 o (omega arith) ∙ first_of_two (end_in es l 0) (end_in es l 1) ∙ two o 0
       go true o (suc e) = any_end (line_at drawn l) e ∙ drawn_end l 1 o (omega arith) ∙ last_of_two (end_in es l 0) (end_in es l 1) e ∙ two o (suc e)
-      go false o e = ap (λ (ps : List Point). end_point ps e) (no_points drawn l (has_same l ∙ o) ∙ sym (no_points (end_lines n has es) l (has_points_lem n has es l ∙ o)))
+      go false o e = ap (λ (ps : List Point). end_point ps e) (no_points drawn l (has_same l ∙ o) ∙ sym (no_points (end_lines n (marks_of has) es) l (has_points_lem n (marks_of has) es l ∙ o)))
 
-  pub made_drawn : made drawn ≡ made (end_lines n has es)
-  made_drawn = made_same drawn (end_lines n has es) (lines_long n 0 starts xs ys ∙ sym (lines_length n has es)) (λ l. has_same l ∙ sym (has_points_lem n has es l)) ends_same
+  pub made_drawn : made drawn ≡ made (end_lines n (marks_of has) es)
+  made_drawn = made_same drawn (end_lines n (marks_of has) es) (lines_long n 0 starts xs ys ∙ sym (lines_length n (marks_of has) es)) (λ l. has_same l ∙ sym (has_points_lem n (marks_of has) es l)) ends_same
 
   -- ---- a candidate as a link
 
@@ -147,12 +147,12 @@ module _ (n : ℕ) (starts xs ys : List ℕ) (has : List Bool) (es : List Ends) 
   unfolding edge_in as_link
   edge_drawn r C =
       let c = r.code in
-      let ol : is_marked n has (c / 1024) ≡ true = sym (has_same (c / 1024)) ∙ C.low_there in
-      let oh : is_marked n has (c / 4 % 256) ≡ true = sym (has_same (c / 4 % 256)) ∙ C.high_there in
+      let ol : is_marked n (marks_of has) (c / 1024) ≡ true = sym (has_same (c / 1024)) ∙ C.low_there in
+      let oh : is_marked n (marks_of has) (c / 4 % 256) ≡ true = sym (has_same (c / 4 % 256)) ∙ C.high_there in
       let a = sym (drawn_end (c / 1024) (c / 2 % 2) ol C.low_end) in
       let b = sym (drawn_end (c / 4 % 256) (c % 2) oh C.high_end) in
-      let s = segment_same (c / 1024) (c / 2 % 2) (marked_in n has (c / 1024) ol).0 in
-      let t = segment_same (c / 4 % 256) (c % 2) (marked_in n has (c / 4 % 256) oh).0 in
+      let s = segment_same (c / 1024) (c / 2 % 2) (marked_in n (marks_of has) (c / 1024) ol).0 in
+      let t = segment_same (c / 4 % 256) (c % 2) (marked_in n (marks_of has) (c / 4 % 256) oh).0 in
       λ i. record { poly_a = c / 1024; seg_a = s i; poly_b = c / 4 % 256; seg_b = t i; point_a = point_from (a i); point_b = point_from (b i) }
 
   edges_drawn : (rs : List Ranked) → All (IsCandidate drawn) (map candidate_in rs) → map (edge_in starts es) rs ≡ map edge_from (map (as_link drawn) (map candidate_in rs))
@@ -160,13 +160,13 @@ module _ (n : ℕ) (starts xs ys : List ℕ) (has : List Bool) (es : List Ends) 
   edges_drawn (r ∷ rs) a = λ i. edge_drawn r a.0 i ∷ edges_drawn rs a.1 i
 
   -- what was found, as links
-  pub links_drawn : (rs : List Ranked) → map candidate_in rs ≡ made (end_lines n has es) → map (edge_in starts es) rs ≡ map edge_from (made_links drawn)
+  pub links_drawn : (rs : List Ranked) → map candidate_in rs ≡ made (end_lines n (marks_of has) es) → map (edge_in starts es) rs ≡ map edge_from (made_links drawn)
   unfolding made_links
   links_drawn rs e =
       let m : map candidate_in rs ≡ made drawn = e ∙ sym made_drawn in
       edges_drawn rs (rw m (made_links_all drawn).are) ∙ ap (λ (ks : List Candidate). map edge_from (map (as_link drawn) ks)) m
 
-  pub links_count : (rs : List Ranked) → map candidate_in rs ≡ made (end_lines n has es) → length rs ≡ length (made_links drawn)
+  pub links_count : (rs : List Ranked) → map candidate_in rs ≡ made (end_lines n (marks_of has) es) → length rs ≡ length (made_links drawn)
   unfolding made_links
   links_count rs e = sym (length-map rs candidate_in) ∙ ap length (e ∙ sym made_drawn) ∙ sym (length-map (made drawn) (as_link drawn))
 
@@ -194,8 +194,8 @@ module _ (f : Ranked → MstEdge) (found : List Ranked) (count : ℕ) where
   writing_start e z = ap (λ (x : MstEdge). sets (replicate most_links x) 0 (map f (take count found))) z
 
 -- what `make_links` answers
-module _ (n : ℕ) (starts xs ys : List ℕ) (has : List Bool) (es : List Ends) (M : Marked starts has n) (E : Ended starts xs ys es n)
-    (found : List Ranked) (count : ℕ) (C : AreCodes count found) (e : map candidate_in (take count found) ≡ made (end_lines n has es)) where
+module _ (n : ℕ) (starts xs ys : List ℕ) (has : List ℕ) (es : List Ends) (M : Marked starts has n) (E : Ended starts xs ys es n)
+    (found : List Ranked) (count : ℕ) (C : AreCodes count found) (e : map candidate_in (take count found) ≡ made (end_lines n (marks_of has) es)) where
   pub count_answer : count ≡ length (made_links (lines_back n 0 starts xs ys))
   count_answer = sym (length-take-le count found (omega (arith, C.few, C.long))) ∙ links_count n starts xs ys has es M E (take count found) e
 

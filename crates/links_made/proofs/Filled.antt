@@ -20,19 +20,19 @@ use Rattle.links_made.specs.Filled.{PlacesOn, place_in, mark_at, ends_at, Marked
 -- ---- all lines
 
 module _ (starts : List ℕ) where
-  pub marked_turn : (has next : List Bool) (i : ℕ) → i < most_lines → Marked starts has i → next ≡ mark_at starts has i → Marked starts next (i + 1)
+  pub marked_turn : (has next : List ℕ) (i : ℕ) → i < most_lines → Marked starts has i → next ≡ mark_at starts has i → Marked starts next (i + 1)
   unfolding mark_at
   marked_turn has next i l M e = go (ltb (get_or starts i 0) (get_or starts (i + 1) 0)) refl
     where
       go : (t : Bool) → ltb (get_or starts i 0) (get_or starts (i + 1) 0) ≡ t → Marked starts next (i + 1)
       go true f =
-          let s : next ≡ set has i true = e ∙ rw (f, mark_at) in
+          let s : next ≡ set has i 1 = e ∙ rw (f, mark_at) in
           let b = ltb-true (get_or starts i 0) (get_or starts (i + 1) 0) f in
           rw s (record {
-            long = omega (arith, M.long, length-set has i true);
-            some = λ w h p. elim (below i w h) [ inl q ↦ rw q (get_or-set_same has i true false (omega (arith, M.long))) | inr q ↦ get_or-set_other has i w true false (λ d. omega arith) ∙ M.some w q p ];
-            none = λ w h p. elim (below i w h) [ inl q ↦ absurd (omega (arith, subst (λ (k : ℕ). get_or starts (k + 1) 0 ≤ get_or starts k 0) q p)) | inr q ↦ get_or-set_other has i w true false (λ d. omega arith) ∙ M.none w q p ];
-            rest = λ w h. get_or-set_other has i w true false (λ d. omega arith) ∙ M.rest w (omega arith);
+            long = omega (arith, M.long, length-set has i 1);
+            some = λ w h p. elim (below i w h) [ inl q ↦ rw q (get_or-set_same has i 1 0 (omega (arith, M.long))) | inr q ↦ get_or-set_other has i w 1 0 (λ d. omega arith) ∙ M.some w q p ];
+            none = λ w h p. elim (below i w h) [ inl q ↦ absurd (omega (arith, subst (λ (k : ℕ). get_or starts (k + 1) 0 ≤ get_or starts k 0) q p)) | inr q ↦ get_or-set_other has i w 1 0 (λ d. omega arith) ∙ M.none w q p ];
+            rest = λ w h. get_or-set_other has i w 1 0 (λ d. omega arith) ∙ M.rest w (omega arith);
           })
       go false f =
           let s : next ≡ has = e ∙ rw (f, mark_at) in
@@ -90,12 +90,12 @@ module _ (starts : List ℕ) where
             })
 
   -- before the first line no line is marked, and all ends are zeros
-  pub marked_start : Marked starts (replicate most_lines false) 0
+  pub marked_start : Marked starts (replicate most_lines 0) 0
   marked_start = record {
-    long = omega (arith, length-replicate {A = Bool} most_lines false);
+    long = omega (arith, length-replicate {A = ℕ} most_lines 0);
     some = λ l b. absurd (not-suc-le-zero b);
     none = λ l b. absurd (not-suc-le-zero b);
-    rest = λ l b. get_d_same most_lines l false;
+    rest = λ l b. get_d_same most_lines l 0;
   }
 
   pub ended_start : (xs ys : List ℕ) → Ended starts xs ys (replicate most_lines no_ends) 0

@@ -1,5 +1,5 @@
 -- The ends of a drawing's lines, taken out of its flat arrays. Line l has the points from starts[l] to starts[l + 1].
-use Rattle.std.specs.Prelude.{List, Bool, true, false, ◌≡◌, ℕ, zero, suc, ◌+◌, ◌-◌, ◌/◌, ◌%◌, ◌≤◌, ◌<◌, length, get_or, set, ltb, ◌*◌}
+use Rattle.std.specs.Prelude.{List, true, false, ◌≡◌, ℕ, zero, suc, ◌+◌, ◌-◌, ◌/◌, ◌%◌, ◌≤◌, ◌<◌, length, get_or, set, ltb, ◌*◌}
 use Rattle.limits.specs.Limits.{most_lines, most_points}
 use Rattle.grid.specs.Grid.{origin}
 use Rattle.grid.specs.declared.Point as code
@@ -22,12 +22,12 @@ pub record PlacesOn (vs : List ℕ) : Type 0 where
 abbrev pub place_in : List ℕ → List ℕ → ℕ → code.Point
 place_in xs ys i = record { x = get_or xs i 0; y = get_or ys i 0 }
 
-abbrev pub line_ends : List Bool → List Ends → LineEnds
+abbrev pub line_ends : List ℕ → List Ends → LineEnds
 line_ends has es = record { has = has; ends = es }
 
 -- a line with points is marked
-unfoldable pub mark_at : List ℕ → List Bool → ℕ → List Bool
-mark_at starts has l = elim (ltb (get_or starts l 0) (get_or starts (l + 1) 0)) [ true ↦ set has l true | false ↦ has ]
+unfoldable pub mark_at : List ℕ → List ℕ → ℕ → List ℕ
+mark_at starts has l = elim (ltb (get_or starts l 0) (get_or starts (l + 1) 0)) [ true ↦ set has l 1 | false ↦ has ]
 
 -- and its ends are taken
 unfoldable pub ends_at : List ℕ → List ℕ → List ℕ → List Ends → ℕ → List Ends
@@ -35,11 +35,11 @@ ends_at starts xs ys es l =
     elim (ltb (get_or starts l 0) (get_or starts (l + 1) 0)) [ true ↦ set es l (record { start = place_in xs ys (get_or starts l 0); end = place_in xs ys (get_or starts (l + 1) 0 - 1) }) | false ↦ es ]
 
 -- the lines below i are marked where they have points, and no line from i on is
-pub record Marked (starts : List ℕ) (has : List Bool) (i : ℕ) : Type 0 where
+pub record Marked (starts has : List ℕ) (i : ℕ) : Type 0 where
   pub long : most_lines ≤ length has
-  pub some : (l : ℕ) → l < i → get_or starts l 0 < get_or starts (l + 1) 0 → get_or has l false ≡ true
-  pub none : (l : ℕ) → l < i → get_or starts (l + 1) 0 ≤ get_or starts l 0 → get_or has l false ≡ false
-  pub rest : (l : ℕ) → i ≤ l → get_or has l false ≡ false
+  pub some : (l : ℕ) → l < i → get_or starts l 0 < get_or starts (l + 1) 0 → get_or has l 0 ≡ 1
+  pub none : (l : ℕ) → l < i → get_or starts (l + 1) 0 ≤ get_or starts l 0 → get_or has l 0 ≡ 0
+  pub rest : (l : ℕ) → i ≤ l → get_or has l 0 ≡ 0
 
 -- the ends of those lines are taken
 pub record Ended (starts xs ys : List ℕ) (es : List Ends) (i : ℕ) : Type 0 where

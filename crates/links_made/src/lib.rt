@@ -30,7 +30,7 @@ const NO_ENDS: Ends = Ends {
 // The lines that have points are marked, and these have their ends.
 #[derive(Clone, Copy)]
 struct LineEnds {
-    has: [bool; MOST_LINES],
+    has: [u8; MOST_LINES],
     ends: [Ends; MOST_LINES],
 }
 
@@ -46,18 +46,29 @@ fn place_at(drawing: &Drawing, i: usize) -> Place
 }
 
 impl LineEnds {
-    // Marks the line l where it has points, and takes its ends.
+    // Marks the line l where it has points.
     fn mark(&mut self, drawing: &Drawing, l: usize)
+        requires { l < most_lines }
+        ensures { self.new ≡ line_ends (mark_at drawing.now.starts self.old.has l) self.old.ends }
+    {
+        let first = drawing.starts[l];
+        let next = drawing.starts[l + 1];
+        if first < next {
+            self.has[l] = 1;
+        }
+    }
+
+    // Takes the ends of the line l where it has points.
+    fn take_ends(&mut self, drawing: &Drawing, l: usize)
         requires { (l < most_lines) × StartsIn drawing.now.starts }
-        ensures { self.new ≡ line_ends (mark_at drawing.now.starts self.old.has l) (ends_at drawing.now.starts drawing.now.xs drawing.now.ys self.old.ends l) }
+        ensures { self.new ≡ line_ends self.old.has (ends_at drawing.now.starts drawing.now.xs drawing.now.ys self.old.ends l) }
     {
         let first = usize::from(drawing.starts[l]);
-        let next = usize::from(drawing.starts[l + 1]);
-        if first < next {
-            self.has[l] = true;
+        let end = usize::from(drawing.starts[l + 1]);
+        if first < end {
             self.ends[l] = Ends {
                 start: place_at(drawing, first),
-                end: place_at(drawing, next - 1),
+                end: place_at(drawing, end - 1),
             };
         }
     }
@@ -113,17 +124,20 @@ pub struct Made {
     pub links: [MstEdge; MOST_LINKS],
 }
 
-// The links that are made for a drawing.
+// The links that are made for a drawing. Not compiled into its callers, whose room would then hold what the links are made of while the
+// drawing is planned.
+#[inline(never)]
 pub fn make_links(drawing: &Drawing) -> Made
     requires { (drawing.now.lines ≤ most_lines) × StartsIn drawing.now.starts × PlacesOn drawing.now.xs × PlacesOn drawing.now.ys }
     ensures { (result.count ≡ length (made_links (lines_back drawing.now.lines 0 drawing.now.starts drawing.now.xs drawing.now.ys))) × (result.links ≡ sets (replicate most_links no_link) 0 (map edge_from (made_links (lines_back drawing.now.lines 0 drawing.now.starts drawing.now.xs drawing.now.ys)))) }
 {
     let mut taken = LineEnds {
-        has: [false; MOST_LINES],
+        has: [0; MOST_LINES],
         ends: [NO_ENDS; MOST_LINES],
     };
     for l in 0..drawing.lines {
         taken.mark(drawing, l);
+        taken.take_ends(drawing, l);
     }
     let found = links_tree::grow(&taken.ends, &taken.has, drawing.lines);
     let mut links = [arrays::no_link(); MOST_LINKS];

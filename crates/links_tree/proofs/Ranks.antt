@@ -25,11 +25,11 @@ before_key a b h = go (ltb a.squared b.squared) refl (ltb b.squared a.squared) r
     go false e true f h = absurd (false≢true h)
     go false e false f h = inr (omega (arith, ltb-false a.squared b.squared e, ltb-false b.squared a.squared f), ltb-true a.code b.code h)
 
-before_now : (a b : Ranked) → a.squared < b.squared → true ≡ before a b
+pub before_now : (a b : Ranked) → a.squared < b.squared → true ≡ before a b
 unfolding before
 before_now a b l = rw (lt-ltb a.squared b.squared l, before)
 
-before_tie : (a b : Ranked) → b.squared ≤ a.squared → a.squared ≤ b.squared → ltb a.code b.code ≡ before a b
+pub before_tie : (a b : Ranked) → b.squared ≤ a.squared → a.squared ≤ b.squared → ltb a.code b.code ≡ before a b
 unfolding before
 before_tie a b l m = rw (le-ltb a.squared b.squared l, le-ltb b.squared a.squared m, before)
 

@@ -3,7 +3,9 @@
 // makes is there for the next one and nothing of it is left out where a call stops early.
 #![tactic(auto)]
 
-ghost use Rattle.std.specs.Prelude.{◌≡◌, length, replicate};
+ghost use Rattle.std.specs.Prelude.{◌≡◌, true, length, replicate};
+ghost use Rattle.drawing_spec.specs.Drawing.{linking};
+ghost use Rattle.links_spec.specs.Made.{to_plan};
 ghost use Rattle.file_records.specs.Meaning.{settings_of};
 ghost use Rattle.file_drawing.specs.Back.{drawing_from};
 ghost use Rattle.graph_arrays.specs.Arrays.{graph_in};
@@ -44,7 +46,8 @@ fn phase_of_graph(
     if last == ODD {
         return phases::end_of_odd(edges, n, m);
     }
-    if last < REPAIR {
+    let before_repair = last < REPAIR;
+    if before_repair {
         return phases::end_of_pairs(nodes, edges, n, m, settings, floats, bytes, last);
     }
     phases::end_of_repair(nodes, edges, n, m, settings, floats, bytes, last)
@@ -73,19 +76,30 @@ fn phase_of_drawing(drawing: &Drawing, floats: &mut [f64], bytes: &mut [u8], las
     )
 }
 
+// The same of a drawing with flag 4, with the links that are made for it, as in `planner`.
+#[inline(never)]
+fn phase_of_linked(drawing: &Drawing, floats: &mut [f64], bytes: &mut [u8], last: u32) -> Phase
+    requires sound { Drawable drawing.now }
+    requires asked { linking (settings_of drawing.now.settings) ≡ true }
+    ensures { result ≡ drawing_phase (to_plan (drawing_from drawing.now)) (length floats.old) (length bytes.old) last }
+{
+    let linked = links_made::link_ends(*drawing);
+    phase_of_drawing(&linked, floats, bytes, last)
+}
+
 // Of a file: the first of conditions 1 to 8 and 15 that holds, or else what a phase made of its drawing.
 fn phase_of_bytes(file: &[u8], floats: &mut [f64], bytes: &mut [u8], last: u32) -> Phase
     ensures { result ≡ phase_of file.now (length floats.old) (length bytes.old) last }
 {
-    match file::read(file) {
+    let mut drawing = Drawing::new();
+    match file::read_into(file, &mut drawing) {
         Err(refusal) => phases::refused(refusal.number()),
-        Ok(drawing) => {
+        Ok(()) => {
             let linking = links_made::asked(drawing.settings);
             if !linking {
                 return phase_of_drawing(&drawing, floats, bytes, last);
             }
-            let linked = links_made::link_ends(drawing);
-            phase_of_drawing(&linked, floats, bytes, last)
+            phase_of_linked(&drawing, floats, bytes, last)
         }
     }
 }

@@ -38,7 +38,8 @@ pub fn plan_graph(
     ensures retrace { RetraceNonneg result }
 {
     let reached = graph_reach::all_reached(edges, n, m);
-    if !reached {
+    let apart = !reached;
+    if apart {
         return Answer::Refused(REFUSED_APART);
     }
     let repair = repair::fix_parity(

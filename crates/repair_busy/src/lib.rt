@@ -76,7 +76,8 @@ fn choose_pairs(
     repair_greedy::greedy_pairs(nodes, n, odd, count, pairs);
     let paid = pairs_cost(&distances, pairs);
     let asked = pairs_cost(&distances, &near);
-    if paid <= asked {
+    let no_dearer = paid <= asked;
+    if no_dearer {
         return;
     }
     *pairs = near;

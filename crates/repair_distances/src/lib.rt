@@ -59,7 +59,9 @@ fn search_row(
     search.clear(n, reached);
 }
 
-// The rows from the place `first` on, by Dijkstra's algorithm, where those before it are right.
+// The rows from the place `first` on, by Dijkstra's algorithm, where those before it are right. Not compiled into `fill_rows`, and `sweep_rows`
+// neither: there the room of the search, 40 KB, would stand beside that of the sweeps.
+#[inline(never)]
 fn search_rows(
     edges: &Adjacency,
     n: usize,
@@ -110,6 +112,7 @@ fn sweep_row(
 }
 
 // The rows by sweeps, up to the first for which they do not come to their end: the answer is how many rows are right.
+#[inline(never)]
 fn sweep_rows(
     edges: &Adjacency,
     n: usize,
@@ -149,7 +152,8 @@ pub fn fill_rows(
     ensures { Rows n (edges_in m edges.now) odd.now count base count table.new }
 {
     let first = sweep_rows(edges, n, m, odd, count, table, base);
-    if first < count {
+    let rows_left = first < count;
+    if rows_left {
         search_rows(edges, n, m, odd, count, table, base, first);
     }
 }

@@ -266,7 +266,7 @@ impl Working {
 
     // The node at place i goes, and the last one takes its place.
     fn remove_place(&mut self, lows: &mut [u64; MOST_NODES], i: usize)
-        requires { (i < self.old.left) × (self.old.left ≤ most_nodes) }
+        requires { (0 < self.old.left) × (self.old.left ≤ most_nodes) × (i < most_nodes) }
         ensures { (self.new.nodes ≡ set self.old.nodes i (get_or self.old.nodes (self.old.left - 1) 0)) × (self.new.left ≡ self.old.left - 1) × (lows.new ≡ set lows.old i 0) }
     {
         let last = self.left - 1;

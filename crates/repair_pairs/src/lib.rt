@@ -44,7 +44,8 @@ fn optimal_refusal(settings: Settings, n: usize, floats: usize, bytes: usize) ->
     if n < 4 {
         return Ok(());
     }
-    if MOST_ODD < n {
+    let busy = MOST_ODD < n;
+    if busy {
         return short_of(n * n, floats);
     }
     let states = repair_table::power(n);
@@ -101,7 +102,8 @@ fn pairs_of(
         repair_greedy::greedy_pairs(nodes, n, odd, count, pairs);
         return;
     }
-    if MOST_ODD < count {
+    let busy = MOST_ODD < count;
+    if busy {
         repair_busy::busy_pairs(nodes, edges, n, m, odd, count, floats, pairs);
         return;
     }

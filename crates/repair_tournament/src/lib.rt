@@ -76,7 +76,8 @@ impl Tournament {
 fn lesser(x: f64, y: f64) -> f64
     ensures { result ≡ lesser x y }
 {
-    if y < x { y } else { x }
+    let below = y < x;
+    if below { y } else { x }
 }
 
 fn differ(x: f64, y: f64) -> bool

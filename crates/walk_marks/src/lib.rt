@@ -8,7 +8,7 @@ ghost use Rattle.walk_marks.specs.Marks.{words, marks_in};
 use limits::EDGE_ROOM;
 
 // Words for the marks of all edges, 504 bytes.
-const WORDS: usize = EDGE_ROOM / 64 + 1;
+pub const WORDS: usize = EDGE_ROOM / 64 + 1;
 
 // Which edges are used.
 #[derive(Drop)]

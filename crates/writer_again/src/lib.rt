@@ -145,6 +145,9 @@ pub fn save_again(file: &[u8], destination: &mut [u8]) -> Result<usize, Refusal>
     ensures saved { saved_from result destination.new ≡ save_again file.now destination.old }
     ensures cleaned { WritesCleaned result file.now destination.old destination.new }
 {
-    let drawing = file::read(file)?;
-    save_arrays(&drawing, destination)
+    let mut drawing = Drawing::new();
+    match file::read_into(file, &mut drawing) {
+        Err(refusal) => Err(refusal),
+        Ok(()) => save_arrays(&drawing, destination),
+    }
 }

@@ -158,6 +158,21 @@ unfolding every
 every_is f [] = refl
 every_is f (x ∷ xs) = ap (λ (t : Bool). f x && t) (every_is f xs)
 
+on_step : (ws : List ℕ) (i : ℕ) → i < length ws → all_on (drop i ws) ≡ on (get_or ws i 0) && all_on (drop (i + 1) ws)
+unfolding all_on every
+on_step ws i h = ap all_on (drop-cons ws i 0 h) ∙ ap (λ (k : ℕ). on (get_or ws i 0) && all_on (drop k ws)) (sym (add-one i))
+
+module _ (ws : List ℕ) (i : ℕ) (e : all_on (drop i ws) ≡ all_on ws) where
+  pub row_on : i < length ws → (t : Bool) → t ≡ on (get_or ws i 0) → t ≡ true → all_on (drop (i + 1) ws) ≡ all_on ws
+  row_on h t k q = sym (on_step ws i h ∙ ap (λ (b : Bool). b && all_on (drop (i + 1) ws)) (sym k ∙ q)) ∙ e
+
+  pub row_off : i < length ws → (t : Bool) → t ≡ on (get_or ws i 0) → t ≡ false → false ≡ all_on ws
+  row_off h t k q = sym (on_step ws i h ∙ ap (λ (b : Bool). b && all_on (drop (i + 1) ws)) (sym k ∙ q)) ∙ e
+
+  pub row_end : length ws ≤ i → true ≡ all_on ws
+  unfolding all_on every
+  row_end h = sym (ap all_on (drop_of_length-le ws {i = i} h)) ∙ e
+
 pub all_are : (ws : List ℕ) → all_on ws ≡ list_all on ws
 unfolding all_on
 all_are ws = every_is on ws

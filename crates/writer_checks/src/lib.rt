@@ -25,7 +25,13 @@ pub fn points_fit(sizes: &[u32], coordinates: &[u64]) -> bool
 pub fn all_on(words: &[u64]) -> bool
     ensures { result ≡ all_on words.now }
 {
-    words.iter().all(|word| grid::on_grid(*word))
+    for i in 0..words.len() {
+        let on = grid::on_grid(words[i]);
+        if !on {
+            return false;
+        }
+    }
+    true
 }
 
 // Check 8, of one end of a link, of a link, and of all. The highest segment of a line is two less than its points, and 0 for a dot.

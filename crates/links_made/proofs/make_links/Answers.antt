@@ -1,7 +1,7 @@
 -- The candidates of the ends that are taken are those of the drawing's lines.
 use Rattle.std.proofs.Common.{◌∙◌, ap, arith}
 use Rattle.links_made.specs.declared.LineEnds.{LineEnds}
-use Rattle.links_made.specs.Filled.{Marked, Ended, edge_in}
+use Rattle.links_made.specs.Filled.{Marked, Ended, edge_in, ends_at, line_ends}
 use Rattle.links_made.proofs.Filled.{marked_start, marked_turn, ended_start, ended_turn, at_end}
 use Rattle.links_made.proofs.Drawn.{writing_start, writing_turn, writing_end, count_answer, links_answer}
 use Rattle.links_made.proofs.make_links.Goals as goal
@@ -12,9 +12,11 @@ loop-l-init c = (marked_start _, ended_start _ _ _)
 pub loop-l-preserved : goal.loop-l-preserved
 loop-l-preserved c =
     let pre = c.requires in
-    let inv = c.loop-l.invariant in (
-      marked_turn _ _ _ _ (omega arith) inv.0 (ap (λ (t : LineEnds). t.has) c.mark.ensures),
-      ended_turn _ _ _ pre.2 pre.3 _ _ _ (omega arith) inv.1 (ap (λ (t : LineEnds). t.ends) c.mark.ensures),
+    let inv = c.loop-l.invariant in
+    let d = c.args.drawing.now in
+    let i = c.loop-l.l in (
+      marked_turn _ _ _ _ (omega arith) inv.0 (ap (λ (t : LineEnds). t.has) (c.take_ends.ensures ∙ ap (λ (t : LineEnds). line_ends t.has (ends_at d.starts d.xs d.ys t.ends i)) c.mark.ensures)),
+      ended_turn _ _ _ pre.2 pre.3 _ _ _ (omega arith) inv.1 (ap (λ (t : LineEnds). t.ends) (c.take_ends.ensures ∙ ap (λ (t : LineEnds). line_ends t.has (ends_at d.starts d.xs d.ys t.ends i)) c.mark.ensures)),
     )
 
 pub loop-j-init : goal.loop-j-init

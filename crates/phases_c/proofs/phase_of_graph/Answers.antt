@@ -21,16 +21,16 @@ returns-then-last-eq-ODD c =
     let r = c.all_reached-reached in
     odd_stops a.n a.m a.nodes.now.xs a.nodes.now.ys a.edges.now (settings_of a.settings) (length a.floats.now) (length a.bytes.now) a.last c.if-last-eq-GRAPH.false r.result r.ensures c.if-not-reached.false c.if-last-eq-ODD.true _ c.end_of_odd.ensures
 
-pub returns-then-last-lt-REPAIR : goal.returns-then-last-lt-REPAIR
-returns-then-last-lt-REPAIR c =
+pub returns-then-before_repair : goal.returns-then-before_repair
+returns-then-before_repair c =
     let a = c.args in
     let r = c.all_reached-reached in
     pairs_stop a.n a.m a.nodes.now.xs a.nodes.now.ys a.edges.now (settings_of a.settings) (length a.floats.now) (length a.bytes.now) a.last c.if-last-eq-GRAPH.false r.result r.ensures c.if-not-reached.false c.if-last-eq-ODD.false
-    c.if-last-lt-REPAIR.true _ c.end_of_pairs.ensures
+    c.if-before_repair.true _ c.end_of_pairs.ensures
 
 pub returns : goal.returns
 returns c =
     let a = c.args in
     let r = c.all_reached-reached in
     repair_stops a.n a.m a.nodes.now.xs a.nodes.now.ys a.edges.now (settings_of a.settings) (length a.floats.now) (length a.bytes.now) a.last c.if-last-eq-GRAPH.false r.result r.ensures c.if-not-reached.false c.if-last-eq-ODD.false
-    c.if-last-lt-REPAIR.false _ c.end_of_repair.ensures
+    c.if-before_repair.false _ c.end_of_repair.ensures

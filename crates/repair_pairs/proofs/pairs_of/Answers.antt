@@ -25,22 +25,22 @@ returns-then-settings-ne-OPTIMAL c =
     ∙ pairs_greedy a.n a.m a.nodes.now.xs a.nodes.now.ys a.edges.now (settings_of a.settings) (odd_nodes a.n (edges_in a.m a.edges.now)) c.if-settings-ne-OPTIMAL.true
 
 pub busy_pairs-requires-clause-room : goal.busy_pairs-requires-clause-room
-busy_pairs-requires-clause-room c = (room_busy (settings_of c.args.settings) _ _ _ c.if-settings-ne-OPTIMAL.false c.if-count-gt-MOST_ODD.true c.requires.room.0, c.requires.room.1)
+busy_pairs-requires-clause-room c = (room_busy (settings_of c.args.settings) _ _ _ c.if-settings-ne-OPTIMAL.false c.if-busy.true c.requires.room.0, c.requires.room.1)
 
-pub returns-then-count-gt-MOST_ODD : goal.returns-then-count-gt-MOST_ODD
-returns-then-count-gt-MOST_ODD c =
+pub returns-then-busy : goal.returns-then-busy
+returns-then-busy c =
     let a = c.args in
     c.busy_pairs.ensures
-    ∙ pairs_busy a.n a.m a.nodes.now.xs a.nodes.now.ys a.edges.now (settings_of a.settings) (odd_nodes a.n (edges_in a.m a.edges.now)) c.if-settings-ne-OPTIMAL.false (omega (arith, c.requires.listed.counts, c.if-count-gt-MOST_ODD.true))
+    ∙ pairs_busy a.n a.m a.nodes.now.xs a.nodes.now.ys a.edges.now (settings_of a.settings) (odd_nodes a.n (edges_in a.m a.edges.now)) c.if-settings-ne-OPTIMAL.false (omega (arith, c.requires.listed.counts, c.if-busy.true))
 
 pub optimal_of-requires-clause-room : goal.optimal_of-requires-clause-room
 optimal_of-requires-clause-room c =
     let a = c.args in
     let four = odd_four a.n a.m a.edges.now c.requires.edges a.odd.now a.count c.requires.listed c.if-count-le2.false in
-    (room_left (settings_of a.settings) _ _ _ c.if-settings-ne-OPTIMAL.false four.0 c.if-count-gt-MOST_ODD.false c.requires.room.0, c.requires.room.1)
+    (room_left (settings_of a.settings) _ _ _ c.if-settings-ne-OPTIMAL.false four.0 c.if-busy.false c.requires.room.0, c.requires.room.1)
 
 pub returns : goal.returns
 returns c =
     let a = c.args in
     c.optimal_of.ensures
-    ∙ pairs_optimal a.n a.m a.nodes.now.xs a.nodes.now.ys a.edges.now (settings_of a.settings) (odd_nodes a.n (edges_in a.m a.edges.now)) c.if-settings-ne-OPTIMAL.false (omega (arith, c.requires.listed.counts, c.if-count-gt-MOST_ODD.false))
+    ∙ pairs_optimal a.n a.m a.nodes.now.xs a.nodes.now.ys a.edges.now (settings_of a.settings) (odd_nodes a.n (edges_in a.m a.edges.now)) c.if-settings-ne-OPTIMAL.false (omega (arith, c.requires.listed.counts, c.if-busy.false))

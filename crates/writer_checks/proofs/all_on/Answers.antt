@@ -1,11 +1,12 @@
--- `writer_checks::all_on` meets its contract. Assumes nothing.
-use Rattle.std.proofs.Common.{◌∙◌, sym, rules, tests}
-use Rattle.std.proofs.lemmas.Iterator.{YieldsList-from_slice}
-use Rattle.std.proofs.lemmas.Iterator.Search.{all_from_yields_List}
-use Rattle.writer_checks.proofs.CheckedLaws.{on, all_are}
+-- Each turn tests one coordinate.
+use Rattle.writer_checks.proofs.CheckedLaws.{row_on, row_off, row_end}
 use Rattle.writer_checks.proofs.all_on.Goals as goal
 
+pub returns-then-not-on : goal.returns-then-not-on
+returns-then-not-on c = row_off _ _ c.loop-i.invariant c.loop-i-test.true _ c.on_grid-on.ensures c.if-not-on.true
+
+pub loop-i-preserved : goal.loop-i-preserved
+loop-i-preserved c = row_on _ _ c.loop-i.invariant c.loop-i-test.true _ c.on_grid-on.ensures c.if-not-on.false
+
 pub returns : goal.returns
-returns c =
-    let words = c.args.words.now in
-    all_from_yields_List on _ _ _ c.all.ensures.ran (YieldsList-from_slice words cc) (λ x b q k. search (rules, tests)) ∙ sym (all_are words)
+returns c = row_end _ _ c.loop-i.invariant c.loop-i-test.false

@@ -1,6 +1,7 @@
 -- Each turn counts one record.
-use mathlib.Core.Path.{refl}
+use mathlib.Core.Path.{refl, ap, ◌∙◌}
 use native.Mathlib.Omega.{arith}
+use Rattle.file_records.specs.Kind.{kind_of}
 use Rattle.file_records.proofs.Walk.{room}
 use Rattle.file_reader.proofs.Part.{behind_is}
 use Rattle.file_checks.proofs.TallyLaws.{count_none, count_on, count_end}
@@ -9,8 +10,8 @@ use Rattle.file_checks.proofs.heads.tally_of.Goals as goal
 pub loop-at-init : goal.loop-at-init
 loop-at-init c = count_none c.args.file.now _ c.requires.1 refl
 
-pub kind_at-kind-requires : goal.kind_at-kind-requires
-kind_at-kind-requires c = omega (arith, room c.args.file.now c.loop-at.at c.loop-at-test.true c.loop-at.invariant.is_whole)
+pub kind_at-requires : goal.kind_at-requires
+kind_at-requires c = omega (arith, room c.args.file.now c.loop-at.at c.loop-at-test.true c.loop-at.invariant.is_whole)
 
 pub size_at-size-requires : goal.size_at-size-requires
 size_at-size-requires c = omega (arith, room c.args.file.now c.loop-at.at c.loop-at-test.true c.loop-at.invariant.is_whole)
@@ -26,7 +27,7 @@ pub loop-at-smaller : goal.loop-at-smaller
 loop-at-smaller c = omega (arith, c.place_behind-at.ensures, behind_is c.args.file.now c.loop-at.at c.loop-at-test.true c.loop-at.invariant.is_whole)
 
 pub loop-at-preserved : goal.loop-at-preserved
-loop-at-preserved c = count_on c.args.file.now c.loop-at.at c.loop-at.t _ _ _ c.loop-at.invariant c.loop-at-test.true c.kind_at-kind.ensures c.size_at-size.ensures c.counted-t.ensures _ c.place_behind-at.ensures
+loop-at-preserved c = count_on c.args.file.now c.loop-at.at c.loop-at.t _ _ _ c.loop-at.invariant c.loop-at-test.true (c.from-kind.ensures ∙ ap kind_of c.kind_at.ensures) c.size_at-size.ensures c.counted-t.ensures _ c.place_behind-at.ensures
 
 pub returns : goal.returns
 returns c = count_end c.args.file.now c.loop-at.at _ c.loop-at.invariant c.loop-at-test.false
