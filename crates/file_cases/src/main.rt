@@ -5,42 +5,14 @@
 ghost use Rattle.std.specs.Prelude.{◌≤◌};
 
 use file_drawing::Drawing;
-use file_records::{MstEdge, Point, Settings};
-use limits::{MOST_LINES, MOST_LINKS, MOST_POINTS};
+use file_records::{MstEdge, Point};
+use limits::MOST_LINKS;
 use std::io;
 
 // Room for a drawing file of 65,537 bytes.
 const ROOM: usize = 65_600;
 
 const PRIME: u64 = 4_294_967_291;
-
-const NO_POINT: Point = Point { x: 0.0, y: 0.0 };
-
-const NO_LINK: MstEdge = MstEdge {
-    poly_a: 0,
-    seg_a: 0,
-    poly_b: 0,
-    seg_b: 0,
-    point_a: NO_POINT,
-    point_b: NO_POINT,
-};
-
-// What the data has for a refused file.
-const NO_DRAWING: Drawing = Drawing {
-    settings: Settings {
-        width: 0,
-        height: 0,
-        pairing: 0,
-        flags: 0,
-    },
-    lines: 0,
-    starts: [0; MOST_LINES + 1],
-    points: 0,
-    xs: [0; MOST_POINTS],
-    ys: [0; MOST_POINTS],
-    link_count: 0,
-    links: [NO_LINK; MOST_LINKS],
-};
 
 // The number in so many bytes that lie some bytes behind a place of the data.
 fn number(data: &[u8], at: usize, by: usize, count: usize) -> u64 {
@@ -158,11 +130,11 @@ fn edges_right(data: &[u8], at: usize, count: u64, edges: &[MstEdge; MOST_LINKS]
     true
 }
 
-// Whether a file is read as the data says at a place.
+// Whether a file is read as the data says at a place; of a refused file it has a drawing with nothing in it.
 fn right(data: &[u8], at: usize, file: &[u8]) -> bool {
     let (refusal, drawing) = match file::read(file) {
         Ok(drawing) => (0, drawing),
-        Err(refusal) => (refusal.number(), NO_DRAWING),
+        Err(refusal) => (refusal.number(), Drawing::new()),
     };
     let count = number(data, at, 5, 2);
     number(data, at, 0, 1) == u64::from(refusal)

@@ -28,7 +28,7 @@ use Rattle.limits.specs.declared.Refusal.{Refusal}
 use Rattle.limits.specs.Refused.{number_of}
 use Rattle.repair_spec.specs.Distance.{zero_length}
 use Rattle.planner_spec.specs.Plan.{drawing_in}
-use Rattle.planner.proofs.Drawn.{planned_is, drawable, linked_in}
+use Rattle.planner.proofs.Drawn.{planned_in, linked_in}
 use Rattle.phases.specs.declared.Phase.{Phase}
 use Rattle.phases.specs.Ends.{refused_with, made, odd_end, pairs_end, repair_end}
 use Rattle.phases_c.specs.Phases.{reached_phase, graph_phase, drawing_phase, phase_of}
@@ -139,4 +139,4 @@ module _ (file : List ℕ) (floats bytes last : ℕ) where
 
   pub drawing_follows : (r : Drawing) → Accepted file r → (d : Drawing) → d ≡ drawing_held (to_plan (drawing_from r)) → (p : Phase) → p ≡ drawing_phase (drawing_from d) floats bytes last
       → p ≡ phase_of file floats bytes last
-  drawing_follows r A d planned p e = linked_follows r A p (e ∙ ap (λ (x : drawn.Drawing). drawing_phase x floats bytes last) (planned_is r (drawable file r A) d planned))
+  drawing_follows r A d planned p e = e ∙ ap (λ (x : drawn.Drawing). drawing_phase x floats bytes last) (planned_in file r A d planned) ∙ by_verdict refusal.accepted A.verdict_is

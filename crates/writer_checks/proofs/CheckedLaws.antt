@@ -153,11 +153,6 @@ module _ (g : Given) where
 
 -- ---- the chains over coordinates and over links
 
-every_is : {A : Type 0} (f : A → Bool) (xs : List A) → every f xs ≡ list_all f xs
-unfolding every
-every_is f [] = refl
-every_is f (x ∷ xs) = ap (λ (t : Bool). f x && t) (every_is f xs)
-
 on_step : (ws : List ℕ) (i : ℕ) → i < length ws → all_on (drop i ws) ≡ on (get_or ws i 0) && all_on (drop (i + 1) ws)
 unfolding all_on every
 on_step ws i h = ap all_on (drop-cons ws i 0 h) ∙ ap (λ (k : ℕ). on (get_or ws i 0) && all_on (drop k ws)) (sym (add-one i))
@@ -172,10 +167,6 @@ module _ (ws : List ℕ) (i : ℕ) (e : all_on (drop i ws) ≡ all_on ws) where
   pub row_end : length ws ≤ i → true ≡ all_on ws
   unfolding all_on every
   row_end h = sym (ap all_on (drop_of_length-le ws {i = i} h)) ∙ e
-
-pub all_are : (ws : List ℕ) → all_on ws ≡ list_all on ws
-unfolding all_on
-all_are ws = every_is on ws
 
 in_four : (from j : ℕ) (vs : List ℕ) → j < 4 → get_or (take 4 (drop from vs)) j 0 ≡ get_or vs (from + j) 0
 in_four from j vs h = get_or-take 4 (drop from vs) j 0 h ∙ get_or-drop from vs j 0
